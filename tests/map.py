@@ -26,8 +26,8 @@ FILE = re.compile(r"\.(antt|rt|in|md|py|sh|edit|txt|css|js|rs|script|yml|json)$"
 WORD = re.compile(r"^[A-Za-z_][\w:]*$")
 LINK = re.compile(r"\]\(([^)\s]+)\)")
 WIDEST = 140
-# What a script writes, and work that isn't landed.
-NOT_WRITTEN = re.compile(r"docs/DEFINITIONS\.md$|parked/")
+# What a script writes.
+NOT_WRITTEN = re.compile(r"docs/DEFINITIONS\.md$")
 FROM_TOP = re.compile(r"(?:\./)?((?:\.ci|bench|crates|docs|examples|rust|tests)/[\w.*{},/-]+)(?: |$)")
 
 

@@ -8,7 +8,8 @@
 # examples/long-tail.py do. Of the page of each example, which
 # tests/examples.sh compares byte for byte with what the program writes, tests/page/check_page.py reads the text as HTML and compares
 # its numbers with the example's stream; so it does with pages of services at random, whose closed tasks leave, and with that of a crowd, which
-# has more places than a page shows. In a browser tests/page/try_script.py sorts and filters the service's page and the crowd's.
+# has more places than a page shows. Pages of two streams are read by tests/page/check_changes.py. In a browser tests/page/try_script.py
+# sorts and filters the service's page and the crowd's.
 #
 # The parser is Debian's python3-html5lib, the browser its chromium. Where one is missing it is installed by apt-get; where it can't be, that is said
 # and its steps are skipped, or with CI=true it is a failure. TASKSCOPE may name another program than `./taskscope`.
@@ -68,6 +69,7 @@ if package /usr/lib/python3/dist-packages/html5lib python3-html5lib; then
     for seed in 1 2 3 4 5 6 7 8; do
         step "a service at random, by seed $seed, as a parser reads its page" is_page_of_service "$seed"
     done
+    step "pages of two streams, as a parser reads them" /usr/bin/python3 "$root/tests/page/check_changes.py" "$program" 1 "${COMPARED_PAIRS:-40}"
     step "the crowd's page is made" make_crowd "$work/crowd" "$work/crowd.html"
     step "the crowd's page, as a parser reads it" /usr/bin/python3 "$root/tests/page/check_page.py" "$work/crowd.html" "$work/crowd"
 fi

@@ -2,7 +2,7 @@
 """Two streams compared, computed plainly: tests/compare/plain_compare.py [--more-than PERCENT] [--at-least MS] BEFORE AFTER
 
 This is a second reading of crates/tk_compare/specs, in another language: tests compare with it what the program writes of two streams. Sums by place
-and histograms are those of tests/places/plain_places.py, and findings those of tests/odd/plain_findings.py.
+and histograms are those of tests/places/plain_places.py. Findings, and how places held up others, are those of tests/odd/plain_findings.py.
 """
 
 import argparse
@@ -19,6 +19,7 @@ import plain_places
 TOP = 2**64 - 1
 SECOND = 10**9
 TIMES = ("ran", "waited")
+RATES = (*TIMES, "held-up")
 CHANGES = ("worse", "new", "better", "gone", "same")
 STANDINGS = ("new", "gone", "still")
 
@@ -35,12 +36,15 @@ class Recorded:
         places, tables = plain_places.places_of(lines, plain_places.Lints)
         self.span = tables.now
         self.places = {
-            name: {"polls": p.sums["polls"], "ran": p.sums["busy"], "waited": p.waited, "histograms": {"polls": p.polls, "waits": p.waits}}
+            name: {"polls": p.sums["polls"], "ran": p.sums["busy"], "waited": p.waited, "held-up": 0, "histograms": {"polls": p.polls, "waits": p.waits}}
             for name, p in places.items()
         }
         diagnosis, last = plain_findings.Diagnosis(Limits), plain_findings.Tables(0, {})
         for last in plain_findings.tables_of(lines):
             diagnosis.after_line(last)
+        for name, held in diagnosis.places.items():
+            place = self.places[name if name in self.places else plain_places.MORE]
+            place["held-up"] = min(place["held-up"] + held["charged"], TOP)
         self.findings = [f.kind + (f" kind {f.place}" if f.place else "") for f in diagnosis.findings(last)]
 
     def rate(self, number, parts=1):
@@ -113,13 +117,13 @@ def compared(before, after, words):
     """What is written of two streams, and how much got worse."""
     lines = {change: [] for change in CHANGES}
     for name, sides in both(before.places, after.places).items():
-        sums = [{word: total(side, word) for word in ("polls", *TIMES)} for side in sides]
-        old, new = ({word: stream.rate(some[word]) for word in TIMES} for stream, some in zip((before, after), sums))
+        sums = [{word: total(side, word) for word in ("polls", *RATES)} for side in sides]
+        old, new = ({word: stream.rate(some[word]) for word in RATES} for stream, some in zip((before, after), sums))
         shares = [{word: (stream.rate(some[word]), some[word] // max(some["polls"], 1)) for word in TIMES} for stream, some in zip((before, after), sums)]
         polls = [stream.rate(some["polls"], 100) for stream, some in zip((before, after), sums)]
         change = change_of(*shares, sides, words)
         numbers = "polls %s %s %s " % (*map(hundredths_text, polls), ratio(*polls))
-        numbers += " ".join(f"{word} {old[word]} {new[word]} {ratio(old[word], new[word])}" for word in TIMES)
+        numbers += " ".join(f"{word} {old[word]} {new[word]} {ratio(old[word], new[word])}" for word in RATES)
         lines[change].append(f"{change} {numbers} kind {name}\n" + below(sides))
     found = {standing: [] for standing in STANDINGS}
     for name, sides in both(dict.fromkeys(before.findings), dict.fromkeys(after.findings)).items():

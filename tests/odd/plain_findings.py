@@ -100,8 +100,9 @@ class Gain:
 
 
 def place_of(info):
-    file, line, column = info["loc"]
-    return f"{info['kind']} at {file}:{line}:{column} name {re.sub('[0-9]+', '#', info['name'])}"
+    location = ":".join(str(part) for part in info["loc"])
+    name = "" if info["name"] == location else " name " + re.sub("[0-9]+", "#", info["name"])
+    return f"{info['kind']} at {location}{name}"
 
 
 class Moved:

@@ -7,7 +7,7 @@ import re
 import sys
 
 TEXT = [(colour, ground) for colour in ("ink", "dim", "busy", "wait", "own", "bad") for ground in ("bg", "card")] + [("link", "bg"), ("bg", "bad")]
-MARKS = [("busy", "idle"), ("wait", "idle"), ("wake", "bg"), ("own", "bg"), ("bad", "bg")]
+MARKS = [("busy", "idle"), ("wait", "idle"), ("wake", "bg"), ("own", "bg"), ("bad", "bg"), ("first", "bg"), ("second", "bg"), ("first", "second")]
 
 
 def luminance(colour):

@@ -7,7 +7,8 @@ Of each page: the parser reports no error and every element is closed; only know
 attribute runs or loads anything; ids are distinct and each link leads to one; the policy names the sums of just this style and this
 script; the head counts what there is and what has left; each number of each row is that of its task; an idle task says what it waits for,
 and a resource who waits for it; if more than 50 tasks came, each number
-of each place is that of tests/places/plain_places.py; there is a card for each of the first twenty findings of tests/odd/plain_findings.py,
+of each place is that of tests/places/plain_places.py; the picture's steps say how many tasks waited, and how many of them for the two places that
+tests/odd/plain_findings.py charges with most, whom its legend and its words name, and its parts stand on one another; there is a card for each of the first twenty findings of tests/odd/plain_findings.py,
 in their order, and a banner for those that are urgent.
 
 It wants the package python3-html5lib.
@@ -28,7 +29,7 @@ import plain_places
 from stream import Tables, busy_until, waited_until
 
 ELEMENTS = set(
-    "html head meta title style body script a article b button caption dd details div dl dt h1 h2 h3 header i input label li main p"
+    "html head meta title style body script a article b button caption dd details div dl dt footer h1 h2 h3 header i input label li main p"
     " path rect section small span summary svg table tbody td th thead tr ul".split()
 )
 LOADS = {"src", "style", "srcset", "action", "formaction", "xlink:href", "background", "ping"}
@@ -51,6 +52,8 @@ RESOURCES = 50
 WAITS = 5
 GAP = "\u202f"
 FEW = 50
+KEPT = 64
+HIGH = 60
 
 
 def name_of(element):
@@ -197,23 +200,42 @@ def check_rows(elements, tables, start):
     assert len(set(numbers)) == len(numbers)
 
 
-def cells_of(place):
+def not_passed(times, percent):
+    """What so many of a hundred times don't pass, by the buckets of their histogram: 0 where it has none."""
+    total = sum(times.counts)
+    if not total:
+        return 0
+    bucket = next(k for k in range(14) if percent * total <= 100 * sum(times.counts[: k + 1]))
+    return min(times.longest, plain_places.BOUNDS[bucket]) if bucket < 13 else times.longest
+
+
+def cells_of(place, held):
     """The numbers of a place, in the order of the columns."""
     sums = place.sums
     is_open = min(plain_places.TOP, sum(sums[state] for state in ("idle", "scheduled", "polling")))
     mean = {key: sums[time] // max(1, sums[key]) for time, key in (("busy", "polls"), ("sched", "tasks"))}
-    return [is_open, sums["scheduled"], sums["tasks"], sums["busy"], sums["polls"], mean["polls"], sums["sched"], mean["tasks"], sums["self"]]
+    return [is_open, sums["scheduled"], sums["tasks"], sums["busy"], sums["polls"], mean["polls"]] + [
+        not_passed(place.polls, 50),
+        not_passed(place.polls, 99),
+        place.polls.longest,
+        sums["sched"],
+        mean["tasks"],
+        not_passed(place.waits, 99),
+        held,
+        sums["self"],
+    ]
 
 
 def check_sites(elements, tables, stream):
+    charged = {place: one["charged"] for place, one in lines_of(stream)[1].items()}
     with open(stream, encoding="ascii") as file:
         places, _ = plain_places.places_of([line for line in file if line.endswith("\n")], plain_places.Lints)
     rows = [row for e in elements if e.get("id") == "sites" for part in e if name_of(part) == "tbody" for row in part]
     said = [(int(row[0].get("data-v")), text_of(row[0]), [int(cell.get("data-v")) for cell in row[1:]]) for row in rows]
     others = places.pop(plain_places.MORE, None)
-    wanted = [(at, name, cells_of(place)) for at, (name, place) in enumerate(places.items())]
-    wanted.sort(key=lambda row: -min(plain_places.TOP, row[2][3] + row[2][6]))
-    wanted = wanted[:ROWS] + ([(len(places), "(others)", cells_of(others))] if others else [])
+    wanted = [(at, name, cells_of(place, charged.get(name, 0))) for at, (name, place) in enumerate(places.items())]
+    wanted.sort(key=lambda row: -min(plain_places.TOP, row[2][3] + row[2][9]))
+    wanted = wanted[:ROWS] + ([(len(places), "(others)", cells_of(others, 0))] if others else [])
     assert said == (wanted if tables.gone + len(tables.tasks) > FEW else []), (said, wanted)
 
 
@@ -221,13 +243,106 @@ class Limits:
     long, wait, percent = 10**8, 10**9, 50
 
 
-def findings_of(stream):
-    """Of each finding its kind, whether it holds now, its task, and the place that waited longest for it."""
-    diagnosis, tables = plain_findings.Diagnosis(Limits), plain_findings.Tables(0, {})
+def diagnosed(stream):
+    """The tables after each line, each with the diagnosis up to it."""
+    diagnosis = plain_findings.Diagnosis(Limits)
     with open(stream, encoding="ascii") as file:
         for tables in plain_findings.tables_of(line for line in file if line.endswith("\n")):
             diagnosis.after_line(tables)
+            yield tables, diagnosis
+
+
+def findings_of(stream):
+    """Of each finding its kind, whether it holds now, its task, and the place that waited longest for it."""
+    tables, diagnosis = plain_findings.Tables(0, {}), plain_findings.Diagnosis(Limits)
+    for tables, diagnosis in diagnosed(stream):
+        pass
     return [(finding.kind, finding.is_now, finding.task, (diagnosis.victim(finding) or [None])[0]) for finding in diagnosis.findings(tables)]
+
+
+# ---- who waited for whom
+
+
+class Line:
+    """A line's moment, how long all tasks had waited, and what each place was charged with."""
+
+    def __init__(self, now, waited, charged):
+        self.now, self.waited, self.charged = now, waited, charged
+
+
+def lines_of(stream):
+    before, waited, held = {}, 0, {}
+    lines = []
+    for tables, diagnosis in diagnosed(stream):
+        waits = {task: waited_until(row, tables.now) for task, (_, row) in tables.tasks.items()}
+        waited += sum(max(0, time - before.get(task, 0)) for task, time in waits.items())
+        before, held = waits, diagnosis.places
+        lines.append(Line(tables.now, waited, {place: one["charged"] for place, one in held.items()}))
+    return lines, held
+
+
+def thinned(lines):
+    """Every k-th line, at most 64: where there would be more every second one is let go."""
+    kept, every, skip = [], 1, 0
+    for line in lines:
+        if skip:
+            skip -= 1
+            continue
+        if len(kept) == KEPT:
+            kept, every = kept[::2], 2 * every
+        kept.append(line)
+        skip = every - 1
+    return kept
+
+
+def splits_of(lines, places, start):
+    """Of each step its begin, its end, and in thousandths how many waited in the mean, and how many of them for the first place and for the second."""
+    before = Line(start, 0, {})
+    for line in thinned(lines) + lines[-1:]:
+        time = line.now - before.now
+        if time > 0:
+            waited = 1000 * (line.waited - before.waited) // time
+            parts, left = [], waited
+            for place in places:
+                parts.append(min(left, 1000 * (line.charged.get(place, 0) - before.charged.get(place, 0)) // time))
+                left -= parts[-1]
+            yield [before.now, line.now, waited] + (parts + [0, 0])[:2]
+        before = line
+
+
+def boxes_of(path):
+    return {int(x): (int(base), int(high)) for x, base, high in re.findall(r"M(\d+) (\d+)v-(\d+)h", path.get("d"))}
+
+
+# The parts of a step stand on one another.
+def check_parts(picture, marks):
+    paths = {path.get("class"): boxes_of(path) for path in picture if name_of(path) == "path"}
+    assert list(paths) == ["first", "second", "wait"], list(paths)
+    assert {x for boxes in paths.values() for x in boxes} <= set(marks), (paths, marks)
+    for x in marks:
+        base = HIGH
+        for boxes in paths.values():
+            if x in boxes:
+                assert boxes[x][0] == base and boxes[x][1] <= base, (x, boxes[x], base)
+                base -= boxes[x][1]
+
+
+def check_picture(elements, stream, now, start):
+    lines, held = lines_of(stream)
+    charged = sorted((item for item in held.items() if item[1]["charged"]), key=lambda item: -item[1]["charged"])[:2]
+    splits, unit = list(splits_of(lines, [place for place, _ in charged], start)), (now - start) // 1000 + 1
+    mark = lambda moment: (min(moment, now) - start) // unit
+    picture = [e for e in elements if e.get("class") == "total"][0]
+    said = [list(map(int, step.split(","))) for step in picture.get("data-steps").split(";")[:-1]]
+    assert said == [[mark(step[0])] + step[2:] for step in splits], (said, splits)
+    check_parts(picture, [step[0] for step in said])
+    keys = [text_of(e) for e in elements if e.get("class") == "who"]
+    assert keys == [place for place, _ in charged], (keys, charged)
+    most = max([0] + [step[2] for step in splits])
+    words = f"How many tasks waited at a time: at most {grouped(most // 1000)}.{most % 1000 // 100}, as the mean of a step"
+    for place, one in charged:
+        words += f". Between {time_of(one['since'] - start)} and {time_of(one['until'] - start)} others waited {time_of(one['charged'])} for {place}"
+    assert picture.get("aria-label") == words, (picture.get("aria-label"), words)
 
 
 def links_of(element):
@@ -293,6 +408,7 @@ def check(page, stream):
     check_rows(elements, tables, start)
     check_waits(elements, tables, start)
     check_sites(elements, tables, stream)
+    check_picture(elements, stream, tables.now, start)
     findings = findings_of(stream)
     check_cards(elements, tables, findings)
     check_banners(elements, tables, findings)
@@ -300,5 +416,6 @@ def check(page, stream):
     check_polls(elements, tables)
 
 
-for page, stream in zip(sys.argv[1::2], sys.argv[2::2]):
-    check(page, stream)
+if __name__ == "__main__":
+    for page, stream in zip(sys.argv[1::2], sys.argv[2::2]):
+        check(page, stream)

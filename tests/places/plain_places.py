@@ -8,12 +8,12 @@ This is a second reading of crates/tk_sites/specs, in another language and with 
 import argparse
 import json
 import os
-import re
 import sys
 
 sys.path.insert(0, os.path.join(os.path.dirname(os.path.abspath(__file__)), "..", "odd"))
 
 import plain_findings
+from plain_findings import place_of
 
 TOP = 2**64 - 1
 ROOM = 4096
@@ -26,12 +26,6 @@ BOUNDS = [2**exponent for exponent in range(14, 27)]
 
 class Lints:
     percent, limit, wait_ms, times = 50, 10**9, None, False
-
-
-def place_of(info):
-    location = ":".join(str(part) for part in info["loc"])
-    name = "" if info["name"] == location else " name " + re.sub("[0-9]+", "#", info["name"])
-    return f"{info['kind']} at {location}{name}"
 
 
 def state_of(row):

@@ -9,11 +9,13 @@
     check_frames.py keyed STREAM SCREEN COLUMN COLUMNS LINES [PAGES]   it shows all lines, its tasks sorted by a key: as many as fit, after so many pages
     check_frames.py odd STREAM FRAMES                 the last screen tells what is odd about all lines
     check_frames.py places STREAM FRAMES COLUMN       it shows the places, with what their tasks came to, those of most in the column first
+    check_frames.py recent STREAM SCREEN COLUMN COLUMNS   a terminal of so many columns shows what places came to in the last 5 seconds
 
 Each but `some` looks at what a screen tells of findings, too: tests/odd/plain_findings.py reckons these.
 """
 
 import json
+import math
 import os
 import re
 import sys
@@ -23,7 +25,7 @@ for folder in ("page", "odd", "places"):
     sys.path.insert(0, os.path.join(os.path.dirname(os.path.abspath(__file__)), "..", folder))
 sys.dont_write_bytecode = True
 import plain_places
-from plain_findings import Diagnosis, place_of as held_place_of, tables_of, waits, waits_for
+from plain_findings import Diagnosis, tables_of, waits, waits_for
 from stream import Tables, busy_until, waited, waited_until
 
 COLUMNS = {
@@ -106,16 +108,27 @@ def calm(findings, tables, span):
     return f"no finding now{'' if findings else ' or earlier'}: {len(times)} {'task waits' if len(times) == 1 else 'tasks wait'}{longest}"
 
 
+def course(counts):
+    """How many tasks waited at each of the last lines."""
+    most = max(counts)
+    return "waiting  " + "".join("_.:-=+*#"[math.ceil(7 * count / most) if most else 0] for count in counts) + f"  at most {most}"
+
+
+def count_waiting(tables):
+    return sum(info["kind"] == "spawn" and waits(row) for info, row in tables.tasks.values())
+
+
 class Odd:
     """What is odd about the first lines of a stream."""
 
-    def __init__(self, findings, tables, span):
-        self.findings, self.tables, self.span = findings, tables, span
+    def __init__(self, findings, tables, span, waits, again):
+        self.findings, self.tables, self.span, self.waits, self.again = findings, tables, span, waits, again
 
     def lines(self, rows=24):
         """What a screen of so many rows tells of it."""
         most = rows // 3
-        lines = [] if any(finding.is_now for finding in self.findings) else [calm(self.findings, self.tables, self.span)]
+        lines = [course(self.waits)] if len(self.waits) > 1 else []
+        lines += [] if any(finding.is_now for finding in self.findings) else [calm(self.findings, self.tables, self.span)]
         lines += [line_of(number, finding, self.tables.tasks) for number, finding in enumerate(self.findings[:most], 1)]
         more = len(self.findings) - most
         return [*lines, f".. and {more} more"] if more > 0 else lines
@@ -123,12 +136,15 @@ class Odd:
 
 def odd_after_each(stream, count=None):
     """What is odd after each line of a stream, or of so many of its lines."""
-    diagnosis, first = Diagnosis(Limits), None
+    diagnosis, first, counts, noted, again = Diagnosis(Limits), None, [], None, False
     with open(stream, encoding="ascii") as file:
         for tables in tables_of(file.readlines()[:count]):
             diagnosis.after_line(tables)
             first = tables.now if first is None else first
-            yield Odd(diagnosis.findings(tables), tables, tables.now - first)
+            counts.append(count_waiting(tables))
+            again = again or (noted is not None and tables.now < noted)
+            noted = tables.now if noted is None or tables.now < noted or tables.now - noted >= 10**8 else noted
+            yield Odd(diagnosis.findings(tables), tables, max(tables.now - first, 0), counts[-40:], again)
 
 
 def odd_about(stream, count=None):
@@ -143,7 +159,7 @@ def head(tables, odd):
     """The first line of a screen."""
     states = [state(task["row"]) for task in tables.tasks.values()]
     counts = ", ".join(f"{states.count(name)} {name}" for name in ("polling", "scheduled", "idle", "closed"))
-    line = f"now {duration(tables.now)}  tasks {len(states)}: {counts}  findings {len(odd.findings)}"
+    line = f"now {duration(tables.now)}{', started again' if odd.again else ''}  tasks {len(states)}: {counts}  findings {len(odd.findings)}"
     lost = tables.dropped
     if any(lost):
         line += f"  lost events of {lost[0]} tasks, {lost[1]} resources, {lost[2]} operations"
@@ -240,12 +256,11 @@ NUMBERS = ("held-up", "sched", "busy", "longest", "polls", "wakes", "self-wakes"
 
 
 def held_in(lines):
-    """What is known of places that held up others, by the text that they have there; and for each place that text."""
+    """What is known of places that held up others."""
     diagnosis = Diagnosis(Limits)
     for tables in tables_of(lines):
         diagnosis.after_line(tables)
-    infos = [info for line in lines for info in json.loads(line)["new_tasks"]]
-    return diagnosis.places, {plain_places.place_of(info): held_place_of(info) for info in infos}
+    return diagnosis.places
 
 
 def last_rows(lines):
@@ -258,12 +273,12 @@ def last_rows(lines):
     yield from tables.tasks.values()
 
 
-def places_of(stream):
-    """The numbers of each place, by its text, in the order in which a first task of each came."""
+def places_of(stream, count=None):
+    """The numbers of each place after so many lines, by its text, in the order in which a first task of each came."""
     with open(stream, encoding="ascii") as file:
-        lines = file.readlines()
-    held, text_there = held_in(lines)
-    places, now = plain_places.places_of(lines, plain_places.Lints)[0], Tables(stream)
+        lines = file.readlines()[:count]
+    held = held_in(lines)
+    places, now = plain_places.places_of(lines, plain_places.Lints)[0], part_of(stream, count)
     last = {text: {**place.sums, "sched": 0} for text, place in places.items()}
 
     def sums_of(info):
@@ -277,7 +292,7 @@ def places_of(stream):
         sums["busy"] += busy_until(task["row"], now.now) - plain_places.count_in(task["row"], "busy")
         sums["sched"] += waited_until(task["row"], now.now) - waited(task["row"])
     for text, sums in last.items():
-        known = held.get(text_there.get(text), {})
+        known = held.get(text, {})
         sums.update({"self-wakes": sums["self"], "held-up": known.get("charged", 0), "longest": known.get("longest", 0)})
     return last
 
@@ -298,6 +313,39 @@ def check_places(stream, path, column):
     frame = frames(path)[-1]
     start = next(at for at, line in enumerate(frame) if line.startswith(" PLACE"))
     same(frame[start + 1 :], [*(place_line(*place) for place in places), f"{len(places)} of {len(places)} places"])
+
+
+def lines_before(stream):
+    """After how many lines that was noted from which the last 5 seconds count, and how long they are."""
+    with open(stream, encoding="ascii") as file:
+        moments = [json.loads(line)["now"] for line in file]
+    notes = []
+    for count, moment in enumerate(moments, 1):
+        if notes and moment < notes[-1][1]:
+            notes = []
+        if not notes or moment - notes[-1][1] >= 10**8:
+            notes.append((count, moment))
+    return [(count, moments[-1] - moment) for count, moment in notes[-64:] if moments[-1] - moment >= 5 * 10**9][-1]
+
+
+def since(now, then):
+    """What a place has come to since it had come to that."""
+    gained = {key: now[key] - then.get(key, 0) for key in ("held-up", "sched", "busy", "polls", "wakes", "self-wakes")}
+    return {**now, **gained, "longest": now["longest"] if now["longest"] > then.get("longest", 0) else 0}
+
+
+def check_recent(stream, path, column, columns):
+    count, time = lines_before(stream)
+    then = places_of(stream, count)
+    whole = sorted(places_of(stream).items(), key=lambda place: [-place[1][key] for key in NUMBERS])
+    places = [(text, since(sums, then.get(text, {}))) for text, sums in whole]
+    places.sort(key=lambda place: [-place[1][key] for key in (column, *NUMBERS)])
+    with open(path, encoding="ascii") as file:
+        screen = file.read().split("\n")
+    same(screen[0], f"by place, last {duration(time)}, sorted by {column}  ? shows the keys"[: int(columns)])
+    start = next(at for at, line in enumerate(screen) if line.startswith(" PLACE")) + 1
+    rows = cut([place_line(*place) for place in places], int(columns))
+    same([re.sub("^>", " ", line) for line in screen[start : start + len(rows)]], rows)
 
 
 def cut(lines, columns):
@@ -329,7 +377,7 @@ def check_keyed(stream, path, column, columns, lines, pages=0):
     check_shown(screen, tasks_of(tables, column), rows, int(pages) * rows)
 
 
-CHECKS = {"keyed": check_keyed, "odd": check_odd, "sorted": check_sorted, "some": check_some, "places": check_places, "rising": check_rising, "last": check_last, "terminal": check_terminal}
+CHECKS = {"keyed": check_keyed, "odd": check_odd, "sorted": check_sorted, "some": check_some, "places": check_places, "recent": check_recent, "rising": check_rising, "last": check_last, "terminal": check_terminal}
 
 if len(sys.argv) < 4 or sys.argv[1] not in CHECKS:
     sys.exit(__doc__)

@@ -6,7 +6,7 @@ use Rattle.clap.specs.Matches.{ReadsOne}
 use Rattle.clap.specs.ValueTests.{is_unsigned_in}
 use Rattle.clap.specs.declared.builder.value_parser.ValueParser.TheVariants as vp
 use Rattle.clap.proofs.ValueTestLemmas.{Accepts-accepts, accepts-Accepts}
-use Rattle.taskscope.specs.Requests.{number_of}
+use Rattle.taskscope.specs.Moments.{number_of}
 
 abbrev most : ℕ
 most = 18446744073709551615
@@ -15,7 +15,7 @@ abbrev value_of : List ℕ → ℕ
 value_of text = digits_value 10 (without_leading_plus text)
 
 -- what `u64` reads of a text is its number
-reads_number : (E : Type 0) (G : List ℕ → Result ℕ E → Type 0) → ((u : List ℕ) (x : Result ℕ E) → G u x → ParsesUnsigned 64 10 u x)
+pub reads_number : (E : Type 0) (G : List ℕ → Result ℕ E → Type 0) → ((u : List ℕ) (x : Result ℕ E) → G u x → ParsesUnsigned 64 10 u x)
     → (t : List ℕ) (r : Option ℕ) → ReadsOne G t r → r ≡ number_of t
 reads_number E G only t (Some v) h =
     let parsed = only t (Ok v) h in

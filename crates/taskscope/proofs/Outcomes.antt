@@ -1,5 +1,6 @@
 -- What was done where nothing could be.
-use Rattle.std.proofs.Common.{◌≡◌, [], List, ℕ, Bool, true, false, Option, Some, None, Err, sym, refl, inr}
+use Rattle.std.proofs.Common.{◌≡◌, [], List, ℕ, Bool, true, false, cond, Option, Some, None, Err, sym, subst, refl, inr}
+use Rattle.std.specs.Option.{option_map}
 use Rattle.std.specs.Borrow.{Bor}
 use Rattle.std.specs.Io.KnownBytes.{Appends}
 use Rattle.std.proofs.lemmas.List.{append-nil}
@@ -7,13 +8,16 @@ use Rattle.tk_fault.specs.declared.fault.AppFault.TheVariants as faults
 use Rattle.tk_screen.specs.declared.canvas.Canvas.{Canvas}
 use Rattle.tk_metrics.specs.Places.{Texts}
 use Rattle.tk_metrics.proofs.KeepLemmas.{none_put}
+use Rattle.tk_until.specs.Front.{front}
 use Rattle.tk_watch.proofs.KeyLemmas.{none_came}
 use Rattle.tk_watch.proofs.WatchLemmas.{none_drawn}
-use Rattle.taskscope.specs.Program.{Does, MeasuresTo, WatchesAtKeys, WatchesBy, filter_text, screen_by}
+use Rattle.taskscope.proofs.WordLemmas.{some_is}
+use Rattle.taskscope.specs.Program.{Does, DoesUntil, MeasuresTo, Titles, WatchesAtKeys, WatchesBy, filter_text, screen_by}
+use Rattle.taskscope.specs.Requests.{at_keys}
 use Rattle.taskscope.specs.declared.command_line.MetricsOptions.{MetricsOptions}
 use Rattle.taskscope.specs.declared.command_line.Request.{Request}
 use Rattle.taskscope.specs.declared.command_line.WatchOptions.{WatchOptions}
-use Rattle.taskscope.specs.declared.command_line.Request.TheVariants.{Compare, Demo, Find, Metrics, Page, Run, Show, Sites, Watch}
+use Rattle.taskscope.specs.declared.command_line.Request.TheVariants.{Compare, Demo, Find, Metrics, Page, PageChanges, Run, Show, Sites, Watch}
 
 -- nothing was written
 nothing_more : (known : Option (List ℕ)) → Appends known known []
@@ -65,46 +69,83 @@ none_watched false options text terminal given known status told = record {
 }
 
 -- without memory nothing is read or written, whatever is asked for
-pub nothing_done : {F : Type 0} (remaining : F → Option (List ℕ)) (is_before : F → Type 0) (terminal : Canvas) (filter to : Option (List ℕ)) (title : List ℕ) (request : Request) (given known : Option (List ℕ)) (texts : Option Texts) (status : ℕ) → status ≡ 1
-    → Does remaining is_before terminal filter to title request given given known known texts texts status
-nothing_done remaining is_before terminal filter to title Run given known texts status told = record {
+pub nothing_done : {F : Type 0} (remaining : F → Option (List ℕ)) (is_before : F → Type 0) (terminal : Canvas) (filter to : Option (List ℕ)) (titles : Titles) (request : Request) (given known : Option (List ℕ)) (texts : Option Texts) (status : ℕ) → status ≡ 1
+    → Does remaining is_before terminal filter to titles request given given known known texts texts status
+nothing_done remaining is_before terminal filter to titles Run given known texts status told = record {
   outcome = Err faults.Memory;
   told = told;
   written = [];
   runs = refl;
   appends = nothing_more known;
 }
-nothing_done remaining is_before terminal filter to title (Show shown lints times) given known texts status told = record {
+nothing_done remaining is_before terminal filter to titles (Show shown lints times) given known texts status told = record {
   outcome = Err faults.Memory;
   told = told;
   views = tt;
   plain = λ none. tt;
   unwritten = λ other. refl;
 }
-nothing_done remaining is_before terminal filter to title (Find view limits times) given known texts status told = record {
+nothing_done remaining is_before terminal filter to titles (Find view limits times) given known texts status told = record {
   outcome = Err faults.Memory;
   told = told;
   views = tt;
   unwritten = λ other. refl;
 }
-nothing_done remaining is_before terminal filter to title (Sites view lints wait_ms times) given known texts status told = record {
+nothing_done remaining is_before terminal filter to titles (Sites view lints wait_ms times) given known texts status told = record {
   outcome = Err faults.Memory;
   told = told;
   views = tt;
   unwritten = λ other. refl;
 }
-nothing_done remaining is_before terminal filter to title (Page limits) given known texts status told = record {
+nothing_done remaining is_before terminal filter to titles (Page limits) given known texts status told = record {
   outcome = Err faults.Memory;
   told = told;
   pages = tt;
   unwritten = λ other. refl;
 }
-nothing_done remaining is_before terminal filter to title (Watch options) given known texts status told = none_watched options.keys options (filter_text filter) terminal given known status told
-nothing_done remaining is_before terminal filter to title (Metrics options) given known texts status told = none_measured to options given known texts status told
-nothing_done remaining is_before terminal filter to title (Compare options) given known texts status told = inr (told, (refl, refl))
-nothing_done remaining is_before terminal filter to title Demo given known texts status told = record {
+nothing_done remaining is_before terminal filter to titles (Watch options) given known texts status told = none_watched options.keys options (filter_text filter) terminal given known status told
+nothing_done remaining is_before terminal filter to titles (Metrics options) given known texts status told = none_measured to options given known texts status told
+nothing_done remaining is_before terminal filter to titles (Compare options) given known texts status told = inr (told, (refl, refl))
+nothing_done remaining is_before terminal filter to titles (PageChanges options) given known texts status told = inr (told, (refl, refl))
+nothing_done remaining is_before terminal filter to titles Demo given known texts status told = record {
   outcome = Err faults.Memory;
   told = told;
   shows = refl;
   unread = refl;
 }
+
+-- nor of what is said up to a moment
+pub nothing_done_until : {F : Type 0} (until : Option ℕ) (remaining : F → Option (List ℕ)) (is_before : F → Type 0) (terminal : Canvas) (filter to : Option (List ℕ)) (titles : Titles) (request : Request) (given known : Option (List ℕ)) (texts : Option Texts) (status : ℕ) → status ≡ 1
+    → DoesUntil until remaining is_before terminal filter to titles request given given known known texts texts status
+nothing_done_until None remaining is_before terminal filter to titles request given known texts status told =
+    nothing_done remaining is_before terminal filter to titles request given known texts status told
+nothing_done_until (Some moment) remaining is_before terminal filter to titles request given known texts status told =
+    (option_map (front (Some moment)) given, nothing_done remaining is_before terminal filter to titles request (option_map (front (Some moment)) given) known texts status told)
+
+-- a watch at keys is what is asked for
+heard : {F : Type 0} (remaining : F → Option (List ℕ)) (is_before : F → Type 0) (terminal : Canvas) (filter to : Option (List ℕ)) (titles : Titles) (request : Request) (options : WatchOptions) (given left old new : Option (List ℕ)) (texts : Option Texts) (status : ℕ)
+    → at_keys request ≡ Some options → WatchesAtKeys options (filter_text filter) terminal old new status
+    → Does remaining is_before terminal filter to titles request given left old new texts texts status
+heard remaining is_before terminal filter to titles Run options given left old new texts status is watches = absurd (cc)
+heard remaining is_before terminal filter to titles (Show shown lints times) options given left old new texts status is watches = absurd (cc)
+heard remaining is_before terminal filter to titles (Find view limits times) options given left old new texts status is watches = absurd (cc)
+heard remaining is_before terminal filter to titles (Sites view lints wait_ms times) options given left old new texts status is watches = absurd (cc)
+heard remaining is_before terminal filter to titles (Page limits) options given left old new texts status is watches = absurd (cc)
+heard remaining is_before terminal filter to titles (Metrics of) options given left old new texts status is watches = absurd (cc)
+heard remaining is_before terminal filter to titles (Compare of) options given left old new texts status is watches = absurd (cc)
+heard remaining is_before terminal filter to titles (PageChanges of) options given left old new texts status is watches = absurd (cc)
+heard remaining is_before terminal filter to titles Demo options given left old new texts status is watches = absurd (cc)
+heard remaining is_before terminal filter to titles (Watch own) options given left old new texts status is watches = by own.keys is
+  where
+    by : (keys : Bool) → cond keys (Some own) None ≡ Some options → WatchesBy keys own (filter_text filter) terminal given left old new status
+    by true same = subst (λ (w : WatchOptions). WatchesAtKeys w (filter_text filter) terminal old new status) (sym (some_is own options same)) watches
+    by false same = absurd (cc)
+
+-- whatever moment is given: a watch has none
+pub heard_until : {F : Type 0} (until : Option ℕ) (remaining : F → Option (List ℕ)) (is_before : F → Type 0) (terminal : Canvas) (filter to : Option (List ℕ)) (titles : Titles) (request : Request) (options : WatchOptions) (given left old new : Option (List ℕ)) (texts : Option Texts) (status : ℕ)
+    → at_keys request ≡ Some options → WatchesAtKeys options (filter_text filter) terminal old new status
+    → DoesUntil until remaining is_before terminal filter to titles request given left old new texts texts status
+heard_until None remaining is_before terminal filter to titles request options given left old new texts status is watches =
+    heard remaining is_before terminal filter to titles request options given left old new texts status is watches
+heard_until (Some moment) remaining is_before terminal filter to titles request options given left old new texts status is watches =
+    (left, heard remaining is_before terminal filter to titles request options (option_map (front (Some moment)) given) left old new texts status is watches)

@@ -9,7 +9,7 @@ use Rattle.std.proofs.lemmas.Bool.{ne_eqb}
 use Rattle.clap.specs.Faults.{bundle_fault, bundle_step_fault, check_fault, defaults_fault, entered_fault, fault_of, flag_word_fault, flags_fault, level_fault, long_fault, option_fault, other_fault, positional_fault, react_fault, repeat_fault, settle_fault, short_fault, step_fault, stray_fault, turn_fault, use_fault, values_fault, walk_fault, word_fault}
 use Rattle.clap.specs.Kinds.{Kinds, or_else, range_kinds, value_kinds}
 use Rattle.clap.specs.Lexer.{long_of, short_of}
-use Rattle.clap.specs.Simple.{App, Shape, argument_words, built, entered, filled, help_rule, names_of, subcommand_of, with_index}
+use Rattle.clap.specs.Simple.{App, Shape, argument_words, built, entered, filled, help_rule, names_of, new_rule, subcommand_of, with_index}
 use Rattle.clap.specs.Values.{read_as}
 use Rattle.clap.specs.ValueTests.{is_numeral, is_unsigned_in}
 use Rattle.clap.specs.Walk.{Held, Names, Outcome, Row, Rule, Step, Text, Waiting, Walk, after_flag, after_step, arg_by_id, arg_by_index, arg_by_long, arg_by_short, at_row, attached_value, bundle, bundle_met, bundle_step, done, finished, flag_met, has_row, idle, is_pending, long_met, long_or_other, more_values, next, nothing_held, option, option_met, option_word, plain, plain_word, positional, pushed, reacted, refused, rows_after, settled, settled_rows, short_met, short_or_plain, subcommand, subcommand_met, subcommand_or_other, takes_several, takes_values, to_positional, trailing, used, used_by_id, value, waits, walk, walk_from, walked, walked_from, with_default, without, word_met, row_text, one_of}
@@ -26,9 +26,10 @@ use Rattle.tk_client.specs.Warnings.{LintsView}
 use Rattle.tk_report.specs.declared.view.View.{View}
 use Rattle.tk_report.specs.declared.view.View.TheVariants.{Report, Lint}
 use Rattle.tk_frame.specs.declared.query.Column.{Column}
-use Rattle.taskscope.specs.declared.command_line.Request.TheVariants.{Metrics, Page, Watch}
+use Rattle.taskscope.specs.Moments.{number_of}
+use Rattle.taskscope.specs.declared.command_line.Request.TheVariants.{Metrics, Watch}
 use Rattle.tk_metrics.specs.declared.by.By.{By}
-use Rattle.taskscope.specs.Requests.{asked, asked_in, by_at, by_place_at, column_at, file_argument, flag_option, limits_in, lints_in, span_option, metrics_by, name_fault, names_nothing, number_of, number_option, program, refusals, text_option, view_of, view_by, watch_by}
+use Rattle.taskscope.specs.Requests.{asked, asked_in, by_at, by_place_at, column_at, flag_option, lints_in, span_option, metrics_by, name_fault, names_no_moment, names_nothing, number_option, page_by, program, refusals, text_option, view_of, view_by, watch_by}
 
 -- ---- lists of kinds
 
@@ -160,22 +161,25 @@ new_limit s v passed = (λ is. absurd (true≢false (sym is)), λ is. (refl, v, 
 sound_help : Sound (with_index 1 (filled help_rule))
 sound_help again values rows good none = absurd (some_kind _ _ (next_none _ _ none))
 
-abbrev file_rule : Rule
-file_rule = with_index 1 (filled file_argument)
+-- a file is no option of lints
+module _ (name : Text) (index : ℕ) (no_percent : bytes_eq name percent_id ≡ false) (no_limit : bytes_eq name limit_id ≡ false) where
+  abbrev file_rule : Rule
+  file_rule = with_index index (filled (new_rule name))
 
-file_use : (again : Bool) (values : List Text) (rows : List Row) → use_fault again file_rule values rows ≡ [] → (v : Text) × (values ≡ v ∷ [])
-file_use again [] rows none = absurd (some_kind _ _ none)
-file_use again (v ∷ []) rows none = (v, refl)
-file_use again (v ∷ w ∷ vs) rows none = absurd (some_kind _ _ (sym (two_values (length vs)) ∙ first_none _ _ none))
+  -- a use of it has one value
+  file_use : (again : Bool) (values : List Text) (rows : List Row) → use_fault again file_rule values rows ≡ [] → (v : Text) × (values ≡ v ∷ [])
+  file_use again [] rows none = absurd (some_kind _ _ none)
+  file_use again (v ∷ []) rows none = (v, refl)
+  file_use again (v ∷ w ∷ vs) rows none = absurd (some_kind _ _ (sym (two_values (length vs)) ∙ first_none _ _ none))
 
-new_file : (v : Text) → IsGood (new_row (codes "FILE") CommandLine v)
-new_file v = (λ is. absurd (true≢false (sym is)), λ is. absurd (true≢false (sym is)))
+  new_file : (v : Text) → IsGood (new_row name CommandLine v)
+  new_file v = (λ is. absurd (true≢false (sym is ∙ no_percent)), λ is. absurd (true≢false (sym is ∙ no_limit)))
 
-sound_file : Sound file_rule
-sound_file again values rows good none =
-    let one = file_use again values rows none in
-    rw one.1 (good_at (codes "FILE") (more_values CommandLine (one.0 ∷ [])) (new_row (codes "FILE") CommandLine one.0 ∷ []) (without (codes "FILE") rows)
-    (good_at (codes "FILE") (λ _. []) [] rows good (λ r g. tt) tt) (good_more CommandLine (one.0 ∷ [])) (new_file one.0, tt))
+  sound_file : Sound file_rule
+  sound_file again values rows good none =
+      let one = file_use again values rows none in
+      rw one.1 (good_at name (more_values CommandLine (one.0 ∷ [])) (new_row name CommandLine one.0 ∷ []) (without name rows)
+      (good_at name (λ _. []) [] rows good (λ r g. tt) tt) (good_more CommandLine (one.0 ∷ [])) (new_file one.0, tt))
 
 -- an option of milliseconds is no option of lints
 module _ (name : Text) (no_percent : bytes_eq name percent_id ≡ false) (no_limit : bytes_eq name limit_id ≡ false) where
@@ -237,13 +241,16 @@ module _ (name : Text) (no_percent : bytes_eq name percent_id ≡ false) (no_lim
       rw (flag_use again values rows none) (good_at name (more_values CommandLine there) (new_row name CommandLine (codes "true") ∷ [])
       (without name rows) (good_at name (λ _. []) [] rows good (λ r g. tt) tt) (good_more CommandLine there) (new_flag CommandLine (codes "true"), tt))
 
+abbrev first_file : Rule
+first_file = file_rule (codes "FILE") 1 refl refl
+
 -- the arguments of a command that has lints, and others
 abbrev ruled_by : List Rule → List Rule
-ruled_by more = file_rule ∷ number_rule percent_id (codes "50") 100 ∷ number_rule limit_id (codes "1000000000") most ∷ more
+ruled_by more = first_file ∷ number_rule percent_id (codes "50") 100 ∷ number_rule limit_id (codes "1000000000") most ∷ more
 
 sound_rules : (more : List Rule) → AreSound more → AreSound (ruled_by more)
 sound_rules more sound = (
-  sound_file,
+  sound_file (codes "FILE") 1 refl refl,
   (sound_number percent_id (codes "50") 100 (new_percent CommandLine), (sound_number limit_id (codes "1000000000") most (new_limit CommandLine), sound)),
 )
 
@@ -275,14 +282,20 @@ place_rule = span_rule (codes "place") refl refl
 abbrev title_rule : Rule
 title_rule = text_rule (codes "title") refl refl
 
+abbrev until_rule : Rule
+until_rule = text_rule (codes "until") refl refl
+
+abbrev later_rule : Rule
+later_rule = file_rule (codes "AFTER") 2 refl refl
+
 abbrev page_rules : List Rule
-page_rules = long_poll_rule ∷ title_rule ∷ last_rules
+page_rules = long_poll_rule ∷ title_rule ∷ until_rule ∷ later_rule ∷ last_rules
 
 abbrev lint_rules : List Rule
-lint_rules = long_poll_rule ∷ long_wait_rule ∷ findings_rule ∷ by_rule ∷ explain_rule ∷ last_rules
+lint_rules = long_poll_rule ∷ long_wait_rule ∷ findings_rule ∷ by_rule ∷ until_rule ∷ explain_rule ∷ last_rules
 
 abbrev view_rules : List Rule
-view_rules = long_poll_rule ∷ long_wait_rule ∷ findings_rule ∷ by_rule ∷ times_rule ∷ place_rule ∷ explain_rule ∷ last_rules
+view_rules = long_poll_rule ∷ long_wait_rule ∷ findings_rule ∷ by_rule ∷ until_rule ∷ times_rule ∷ place_rule ∷ explain_rule ∷ last_rules
 
 -- ---- the walk keeps rows good
 
@@ -533,13 +546,13 @@ last_keeps : AllKeep last_rules
 last_keeps = (keeps_without (codes "help"), tt)
 
 page_keeps : AllKeep page_rules
-page_keeps = (keeps_without (codes "long-poll"), (keeps_without (codes "title"), last_keeps))
+page_keeps = (keeps_without (codes "long-poll"), (keeps_without (codes "title"), (keeps_without (codes "until"), (keeps_without (codes "AFTER"), last_keeps))))
 
 lint_keeps : AllKeep lint_rules
-lint_keeps = (keeps_without (codes "long-poll"), (keeps_without (codes "long-wait"), (keeps_findings, (keeps_without (codes "by"), (keeps_explain, last_keeps)))))
+lint_keeps = (keeps_without (codes "long-poll"), (keeps_without (codes "long-wait"), (keeps_findings, (keeps_without (codes "by"), (keeps_without (codes "until"), (keeps_explain, last_keeps))))))
 
 view_keeps : AllKeep view_rules
-view_keeps = (keeps_without (codes "long-poll"), (keeps_without (codes "long-wait"), (keeps_findings, (keeps_without (codes "by"), (keeps_times, (keeps_without (codes "place"), (keeps_explain, last_keeps)))))))
+view_keeps = (keeps_without (codes "long-poll"), (keeps_without (codes "long-wait"), (keeps_findings, (keeps_without (codes "by"), (keeps_without (codes "until"), (keeps_times, (keeps_without (codes "place"), (keeps_explain, last_keeps))))))))
 
 both_defaults : (rows : List Row) → AreGood rows → HaveNumbers (defaulted limit_id (codes "1000000000") (defaulted percent_id (codes "50") rows))
 unfolding HaveNumbers
@@ -604,7 +617,7 @@ view_asks_of : (view : View) (options : List Row) (by_place : Option Bool) → n
 view_asks_of view options None wrong some = absurd (true≢false wrong)
 view_asks_of view options (Some by_place) right some = view_asks view options by_place (lints_in options) some
 
-page_asks_of : (options : List Row) (lints : Option LintsView) → IsSome lints → IsSome (option_and_then (λ l. Some (Page (limits_in l options))) lints)
+page_asks_of : (options : List Row) (lints : Option LintsView) → IsSome lints → IsSome (option_and_then (λ l. Some (page_by options l)) lints)
 page_asks_of options None some = absurd (true≢false (sym some))
 page_asks_of options (Some l) some = refl
 
@@ -760,21 +773,29 @@ abbrev options_in : Option (Text × List Row) → List Row
 options_in None = []
 options_in (Some command) = command.1
 
+-- where an option names something, so do the keys among them
+keys_named : (options : List Row) (b : Bool) → (names_no_moment options || b) ≡ false → b ≡ false
+keys_named options b = last_false (names_no_moment options) b
+  where
+    last_false : (a b : Bool) → (a || b) ≡ false → b ≡ false
+    last_false true b named = absurd (true≢false named)
+    last_false false b named = named
+
 show_named : (options : List Row) → names_nothing (Some (codes "view", options)) ≡ false → IsSome (lints_in options) → IsSome (asked_in (Some (codes "view", options)))
-show_named options named = view_asks_of Report options (by_place_at Report options) named
+show_named options named = view_asks_of Report options (by_place_at Report options) (keys_named options _ named)
 
 show_asks : (words : List Text) → TakenAsks (codes "view") words
 show_asks words none named =
     show_named (options_in (entered there (Some (codes "view", words)))) named
-    (lints_there _ (numbers_there view_rules (sound_span (codes "long-poll") refl refl, (sound_span (codes "long-wait") refl refl, (sound_flag (codes "findings") refl refl, (sound_text (codes "by") refl refl, (sound_flag (codes "times") refl refl, (sound_span (codes "place") refl refl, (sound_flag (codes "explain") refl refl, (sound_help, tt)))))))) view_keeps _ words refl none))
+    (lints_there _ (numbers_there view_rules (sound_span (codes "long-poll") refl refl, (sound_span (codes "long-wait") refl refl, (sound_flag (codes "findings") refl refl, (sound_text (codes "by") refl refl, (sound_text (codes "until") refl refl, (sound_flag (codes "times") refl refl, (sound_span (codes "place") refl refl, (sound_flag (codes "explain") refl refl, (sound_help, tt))))))))) view_keeps _ words refl none))
 
 warn_named : (options : List Row) → names_nothing (Some (codes "lint", options)) ≡ false → IsSome (lints_in options) → IsSome (asked_in (Some (codes "lint", options)))
-warn_named options named = view_asks_of Lint options (by_place_at Lint options) named
+warn_named options named = view_asks_of Lint options (by_place_at Lint options) (keys_named options _ named)
 
 lint_asks : (words : List Text) → TakenAsks (codes "lint") words
 lint_asks words none named =
     warn_named (options_in (entered there (Some (codes "lint", words)))) named
-    (lints_there _ (numbers_there lint_rules (sound_span (codes "long-poll") refl refl, (sound_span (codes "long-wait") refl refl, (sound_flag (codes "findings") refl refl, (sound_text (codes "by") refl refl, (sound_flag (codes "explain") refl refl, (sound_help, tt)))))) lint_keeps _ words refl none))
+    (lints_there _ (numbers_there lint_rules (sound_span (codes "long-poll") refl refl, (sound_span (codes "long-wait") refl refl, (sound_flag (codes "findings") refl refl, (sound_text (codes "by") refl refl, (sound_text (codes "until") refl refl, (sound_flag (codes "explain") refl refl, (sound_help, tt))))))) lint_keeps _ words refl none))
 
 page_named : (options : List Row) → IsSome (lints_in options) → IsSome (asked_in (Some (codes "page", options)))
 page_named options some = page_asks_of options (lints_in options) some
@@ -782,16 +803,16 @@ page_named options some = page_asks_of options (lints_in options) some
 page_asks : (words : List Text) → TakenAsks (codes "page") words
 page_asks words none named =
     page_named (options_in (entered there (Some (codes "page", words))))
-    (lints_there _ (numbers_there page_rules (sound_span (codes "long-poll") refl refl, (sound_text (codes "title") refl refl, (sound_help, tt))) page_keeps _ words refl none))
+    (lints_there _ (numbers_there page_rules (sound_span (codes "long-poll") refl refl, (sound_text (codes "title") refl refl, (sound_text (codes "until") refl refl, (sound_file (codes "AFTER") 2 refl refl, (sound_help, tt))))) page_keeps _ words refl none))
 
 watch_named : (options : List Row) → names_nothing (Some (codes "watch", options)) ≡ false → IsSome (asked_in (Some (codes "watch", options)))
-watch_named options named = watch_asks_of options (column_at options) named
+watch_named options named = watch_asks_of options (column_at options) (keys_named options _ named)
 
 watch_asks : (words : List Text) → TakenAsks (codes "watch") words
 watch_asks words none named = watch_named (options_in (entered there (Some (codes "watch", words)))) named
 
 metrics_named : (options : List Row) → names_nothing (Some (codes "metrics", options)) ≡ false → IsSome (asked_in (Some (codes "metrics", options)))
-metrics_named options named = metrics_asks_of options (by_at options) named
+metrics_named options named = metrics_asks_of options (by_at options) (keys_named options _ named)
 
 metrics_asks : (words : List Text) → TakenAsks (codes "metrics") words
 metrics_asks words none named = metrics_named (options_in (entered there (Some (codes "metrics", words)))) named

@@ -3,15 +3,17 @@ use Rattle.std.proofs.Common.{◌≡◌, refl, ℕ, List, [], ◌∷◌, codes, 
 use Rattle.clap.specs.Walk.{is_empty}
 use Rattle.clap.specs.declared.error.kind.ErrorKind.TheVariants.{ArgumentConflict, DisplayHelp, InvalidSubcommand, InvalidValue, MissingRequiredArgument, MissingSubcommand, UnknownArgument, ValueValidation}
 use Rattle.clap.proofs.OnLiterals.{clap_on_literals}
+use Rattle.jiff_fmt.proofs.OnLiterals.{jiff_fmt_on_literals}
 use Rattle.tk_report.specs.Timed.{no_times}
 use Rattle.tk_report.specs.declared.view.View.TheVariants.{Report, Lint}
 use Rattle.tk_client.specs.Warnings.{default_lints}
-use Rattle.taskscope.specs.declared.command_line.Request.TheVariants.{Compare, Demo, Find, Metrics, Page, Run, Show, Sites, Watch}
+use Rattle.taskscope.specs.declared.moments.Moment.TheVariants.{At, BeforeEnd}
+use Rattle.taskscope.specs.declared.command_line.Request.TheVariants.{Compare, Demo, Find, Metrics, Page, PageChanges, Run, Show, Sites, Watch}
 use Rattle.tk_frame.specs.declared.query.Column.TheVariants.{HeldUp, Polls, Sched}
 use Rattle.tk_metrics.specs.declared.by.By.TheVariants.{Id, Place}
 use Rattle.tk_sites.specs.declared.sites_view.SitesView.TheVariants.{All, One}
 use Rattle.tk_found.specs.Views.{limits_by}
-use Rattle.taskscope.specs.Requests.{AsksFor, AsksForHelp, AsksForInput, AsksForVersion, IsMistake, before_text, file_of, filter_of, plain_metrics, plain_watch, refusals, title_text, to_of}
+use Rattle.taskscope.specs.Requests.{AsksFor, AsksForHelp, AsksForInput, AsksForVersion, IsMistake, before_text, file_of, filter_of, plain_metrics, plain_watch, refusals, title_text, to_of, until_of}
 
 -- the program is called by some name
 module _ (name : List ℕ) where
@@ -183,6 +185,47 @@ module _ (name : List ℕ) where
   the_file_for_a_title : title_text (name ∷ codes "page" ∷ codes "a.stream" ∷ []) ≡ codes "a.stream"
   unfolding clap_on_literals
   the_file_for_a_title = refl
+
+  up_to_a_moment : until_of (name ∷ codes "lint" ∷ codes "--until" ∷ codes "36900000000" ∷ codes "a.stream" ∷ []) ≡ Some (At 36900000000)
+  unfolding clap_on_literals
+  up_to_a_moment = refl
+
+  before_the_end : until_of (name ∷ codes "view" ∷ codes "--until=12.5s" ∷ codes "a.stream" ∷ []) ≡ Some (BeforeEnd 12500000000)
+  unfolding clap_on_literals jiff_fmt_on_literals
+  before_the_end = refl
+
+  before_the_end_of_an_input : refusals (name ∷ codes "view" ∷ codes "--until=12.5s" ∷ []) ≡ InvalidValue ∷ []
+  unfolding clap_on_literals jiff_fmt_on_literals
+  before_the_end_of_an_input = refl
+
+  no_moment : refusals (name ∷ codes "page" ∷ codes "--until=noon" ∷ codes "a.stream" ∷ []) ≡ InvalidValue ∷ []
+  unfolding clap_on_literals jiff_fmt_on_literals
+  no_moment = refl
+
+  what_changed : AsksFor (PageChanges (record { limits = limits_by default_lints None; margin = record { percent = 50; least = 1000000 } }))
+      (name ∷ codes "page" ∷ codes "a.stream" ∷ codes "b.stream" ∷ [])
+  unfolding clap_on_literals
+  what_changed = (refl, refl)
+
+  the_later_file : file_of (name ∷ codes "page" ∷ codes "a.stream" ∷ codes "b.stream" ∷ []) ≡ Some (codes "b.stream")
+  unfolding clap_on_literals
+  the_later_file = refl
+
+  the_earlier_file : before_text (name ∷ codes "page" ∷ codes "a.stream" ∷ codes "b.stream" ∷ []) ≡ codes "a.stream"
+  unfolding clap_on_literals
+  the_earlier_file = refl
+
+  no_moment_of_two : refusals (name ∷ codes "page" ∷ codes "a.stream" ∷ codes "b.stream" ∷ codes "--until=5" ∷ []) ≡ InvalidValue ∷ []
+  unfolding clap_on_literals jiff_fmt_on_literals
+  no_moment_of_two = refl
+
+  to_the_end : until_of (name ∷ codes "page" ∷ codes "a.stream" ∷ []) ≡ None
+  unfolding clap_on_literals
+  to_the_end = refl
+
+  no_moment_of_a_watch : refusals (name ∷ codes "watch" ∷ codes "--until=5" ∷ []) ≡ UnknownArgument ∷ []
+  unfolding clap_on_literals
+  no_moment_of_a_watch = refl
 
   the_program_for_a_title : title_text (name ∷ codes "page" ∷ []) ≡ codes "taskscope"
   unfolding clap_on_literals

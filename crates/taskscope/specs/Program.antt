@@ -1,5 +1,5 @@
 -- What a run of the program does with a script, with a stream, and for the demo.
-use Rattle.std.specs.Prelude.{◌≡◌, ◌⊎◌, ◌==◌, ◌&&◌, is_some, ℕ, Bool, true, false, List, [], Option, Some, None, Result, Ok, Err, IfErr, if◌then◌else◌, unwrap_or}
+use Rattle.std.specs.Prelude.{◌≡◌, ◌⊎◌, ◌==◌, ◌&&◌, is_some, ℕ, Bool, true, false, List, [], Option, Some, None, Result, Ok, Err, IfErr, if◌then◌else◌, option_map, unwrap_or}
 use Rattle.std.specs.Borrow.{Bor}
 use Rattle.std.specs.Io.KnownBytes.{Appends}
 use Rattle.tk_client.specs.Warnings.{LintsView}
@@ -13,6 +13,7 @@ use Rattle.tk_found.specs.Views.{ViewsFindings}
 use Rattle.tk_sites.specs.Views.{ViewsSites}
 use Rattle.tk_sites.specs.declared.sites_view.SitesView.{SitesView}
 use Rattle.tk_sites.specs.declared.sites_view.SitesView.TheVariants.{All, One}
+use Rattle.tk_page.specs.Changed.{PagesChanges}
 use Rattle.tk_page.specs.Pages.{PagesWith}
 use Rattle.tk_compare.specs.Recorded.{Records}
 use Rattle.tk_compare.specs.Views.{Compares}
@@ -26,14 +27,19 @@ use Rattle.tk_fault.specs.declared.fault.AppFault.{AppFault}
 use Rattle.tk_frame.specs.Typed.{nothing}
 use Rattle.tk_screen.specs.declared.canvas.Canvas.{Canvas}
 use Rattle.tk_screen.specs.declared.canvas.Canvas.TheVariants.{Plain}
+use Rattle.tk_until.specs.End.{EndsAt}
+use Rattle.tk_until.specs.Front.{front}
 use Rattle.tk_watch.specs.Keyed.{Coming, WatchesKeys}
 use Rattle.tk_watch.specs.Watches.{Watches}
 use Rattle.tk_watch.specs.declared.drawing.Screen.{Screen}
 use Rattle.tk_report.specs.declared.view.View.{View}
 use Rattle.tk_report.specs.declared.view.View.TheVariants.{Report, Lint}
 use Rattle.tk_report.specs.declared.view.Viewed.{Viewed}
+use Rattle.taskscope.specs.Moments.{moment_before}
+use Rattle.taskscope.specs.declared.moments.Moment.{Moment}
+use Rattle.taskscope.specs.declared.moments.Moment.TheVariants.{At, BeforeEnd}
 use Rattle.taskscope.specs.declared.command_line.Request.{Request}
-use Rattle.taskscope.specs.declared.command_line.Request.TheVariants.{Compare, Demo, Find, Metrics, Page, Run, Show, Sites, Watch}
+use Rattle.taskscope.specs.declared.command_line.Request.TheVariants.{Compare, Demo, Find, Metrics, Page, PageChanges, Run, Show, Sites, Watch}
 use Rattle.taskscope.specs.declared.command_line.CompareOptions.{CompareOptions}
 use Rattle.taskscope.specs.declared.command_line.MetricsOptions.{MetricsOptions}
 use Rattle.taskscope.specs.declared.command_line.WatchOptions.{WatchOptions}
@@ -136,6 +142,7 @@ screen_by options part terminal = record {
     typed = nothing;
     resources = options.resources;
     by_place = options.by_place;
+    recent = false;
   };
   lints = options.lints;
   canvas = if options.plain then Plain else terminal;
@@ -147,7 +154,7 @@ pub record WatchesStream (options : WatchOptions) (text : List ℕ) (terminal : 
   pub told : status ≡ status_of outcome
   pub part : Bor (List ℕ)
   pub is_text : part.now ≡ text
-  pub watches : Watches (screen_by options part terminal) given left outcome old new
+  pub watches : Watches (screen_by options part terminal) given left outcome old new None None
 
 -- some stream is watched by whoever presses the terminal's keys, of both of which nothing is known, and the status tells the outcome
 pub record WatchesAtKeys (options : WatchOptions) (text : List ℕ) (terminal : Canvas) (old new : Option (List ℕ)) (status : ℕ) : Type 0 where
@@ -192,34 +199,51 @@ pub record ComparesRecorded (margin : Margin) (before after : Recorded) (old new
   -- only a writer's fault comes once something was written
   pub unwritten : IfErr outcome (λ fault. (IsOfWriter fault → ⊥) → new ≡ old)
 
+-- the title of a page of two streams, and the path of the earlier one
+abbrev pub Titles : Type 0
+Titles = List ℕ × List ℕ
+
+-- it is drawn as a page with these
+pub record PagesRecorded (titles : Titles) (margin : Margin) (before after : Recorded) (old new : Option (List ℕ)) (status : ℕ) : Type 0 where
+  pub outcome : Result ℕ AppFault
+  pub told : status ≡ page_status outcome
+  pub pages : PagesChanges titles.0 titles.1 margin before after outcome old new
+  -- only a writer's fault comes once something was written
+  pub unwritten : IfErr outcome (λ fault. (IsOfWriter fault → ⊥) → new ≡ old)
+
+-- what changed is shown: as a text, or as a page with these titles
+abbrev pub ShowsRecorded : Option Titles → Margin → Recorded → Recorded → Option (List ℕ) → Option (List ℕ) → ℕ → Type 0
+ShowsRecorded None margin before after old new status = ComparesRecorded margin before after old new status
+ShowsRecorded (Some titles) margin before after old new status = PagesRecorded titles margin before after old new status
+
 -- the same of what the later stream came to, which may be a fault
-abbrev pub ComparesAfter : Margin → Recorded → Result Recorded AppFault → Option (List ℕ) → Option (List ℕ) → ℕ → Type 0
-ComparesAfter margin before (Ok after) old new status = ComparesRecorded margin before after old new status
-ComparesAfter margin before (Err fault) old new status = (status ≡ 1) × (new ≡ old)
+abbrev pub ComparesAfter : Option Titles → Margin → Recorded → Result Recorded AppFault → Option (List ℕ) → Option (List ℕ) → ℕ → Type 0
+ComparesAfter page margin before (Ok after) old new status = ShowsRecorded page margin before after old new status
+ComparesAfter page margin before (Err fault) old new status = (status ≡ 1) × (new ≡ old)
 
 -- the later stream is read to its end and compared with an earlier one
-pub record ReadsAfter (options : CompareOptions) (before : Recorded) (given left old new : Option (List ℕ)) (status : ℕ) : Type 0 where
+pub record ReadsAfter (page : Option Titles) (options : CompareOptions) (before : Recorded) (given left old new : Option (List ℕ)) (status : ℕ) : Type 0 where
   pub after : Result Recorded AppFault
   pub reads : Records options.limits given left after
-  pub compares : ComparesAfter options.margin before after old new status
+  pub compares : ComparesAfter page options.margin before after old new status
 
 -- the same of what the earlier stream came to. After a fault of it the later one is not read
-abbrev pub ComparesBefore : CompareOptions → Result Recorded AppFault → Option (List ℕ) → Option (List ℕ) → Option (List ℕ) → Option (List ℕ) → ℕ → Type 0
-ComparesBefore options (Ok before) given left old new status = ReadsAfter options before given left old new status
-ComparesBefore options (Err fault) given left old new status = (status ≡ 1) × ((left ≡ given) × (new ≡ old))
+abbrev pub ComparesBefore : Option Titles → CompareOptions → Result Recorded AppFault → Option (List ℕ) → Option (List ℕ) → Option (List ℕ) → Option (List ℕ) → ℕ → Type 0
+ComparesBefore page options (Ok before) given left old new status = ReadsAfter page options before given left old new status
+ComparesBefore page options (Err fault) given left old new status = (status ≡ 1) × ((left ≡ given) × (new ≡ old))
 
--- the earlier stream of these bytes is read to its end, and then the later one, and what changed is written
-pub record ComparesStreams (options : CompareOptions) (earlier given left old new : Option (List ℕ)) (status : ℕ) : Type 0 where
+-- the earlier stream of these bytes is read to its end, and then the later one, and what changed is shown
+pub record ComparesStreams (page : Option Titles) (options : CompareOptions) (earlier given left old new : Option (List ℕ)) (status : ℕ) : Type 0 where
   pub before : Result Recorded AppFault
   pub rest : Option (List ℕ)
   pub reads : Records options.limits earlier rest before
-  pub compares : ComparesBefore options before given left old new status
+  pub compares : ComparesBefore page options before given left old new status
 
 -- the earlier stream is that of a file, of which this says which readers have its bytes, and what a reader has left; or it could not be opened, and
 -- nothing was done
-abbrev pub ComparesWith : {F : Type 0} → (F → Option (List ℕ)) → (F → Type 0) → CompareOptions → Option (List ℕ) → Option (List ℕ) → Option (List ℕ) → Option (List ℕ) → ℕ → Type 0
-ComparesWith {F} remaining is_before options given left old new status =
-    ((file : F) × (is_before file × ComparesStreams options (remaining file) given left old new status))
+abbrev pub ComparesWith : {F : Type 0} → (F → Option (List ℕ)) → (F → Type 0) → Option Titles → CompareOptions → Option (List ℕ) → Option (List ℕ) → Option (List ℕ) → Option (List ℕ) → ℕ → Type 0
+ComparesWith {F} remaining is_before page options given left old new status =
+    ((file : F) × (is_before file × ComparesStreams page options (remaining file) given left old new status))
     ⊎ ((status ≡ 1) × ((left ≡ given) × (new ≡ old)))
 
 -- the demo is shown, nothing is read, and the status tells the outcome
@@ -233,23 +257,48 @@ pub record ShowsDemo (given left old new : Option (List ℕ)) (status : ℕ) : T
 abbrev pub filter_text : Option (List ℕ) → List ℕ
 filter_text filter = unwrap_or filter []
 
--- what is asked for is done, with this filter and terminal for a watch, this path for numbers, this title for a page, and an earlier stream for a
--- comparison: of the reader's
--- bytes before and after, of the output's, of a place's texts, and the status
-abbrev pub Does : {F : Type 0} → (F → Option (List ℕ)) → (F → Type 0) → Canvas → Option (List ℕ) → Option (List ℕ) → List ℕ → Request → Option (List ℕ) → Option (List ℕ) → Option (List ℕ) → Option (List ℕ) → Option Texts → Option Texts → ℕ → Type 0
-Does remaining is_before terminal filter to title Run given left old new before after status = RunsScript given old new status
-Does remaining is_before terminal filter to title (Show view lints times) given left old new before after status = ViewsStream view lints times given left old new status
-Does remaining is_before terminal filter to title (Find view limits times) given left old new before after status = FindsInStream view limits times given left old new status
-Does remaining is_before terminal filter to title (Sites view lints wait_ms times) given left old new before after status = AddsUpStream view lints wait_ms times given left old new status
-Does remaining is_before terminal filter to title (Page limits) given left old new before after status = PagesStream title limits given left old new status
-Does remaining is_before terminal filter to title (Watch options) given left old new before after status = WatchesBy options.keys options (filter_text filter) terminal given left old new status
-Does remaining is_before terminal filter to title (Metrics options) given left old new before after status = MeasuresTo to options given left old new before after status
-Does remaining is_before terminal filter to title (Compare options) given left old new before after status = ComparesWith remaining is_before options given left old new status
-Does remaining is_before terminal filter to title Demo given left old new before after status = ShowsDemo given left old new status
+-- what is asked for is done, with this filter and terminal for a watch, this path for numbers, these titles for a page, and an earlier stream
+-- for a comparison: of the reader's bytes before and after, of the output's, of a place's texts, and the status
+abbrev pub Does : {F : Type 0} → (F → Option (List ℕ)) → (F → Type 0) → Canvas → Option (List ℕ) → Option (List ℕ) → Titles → Request → Option (List ℕ) → Option (List ℕ) → Option (List ℕ) → Option (List ℕ) → Option Texts → Option Texts → ℕ → Type 0
+Does remaining is_before terminal filter to titles Run given left old new before after status = RunsScript given old new status
+Does remaining is_before terminal filter to titles (Show view lints times) given left old new before after status = ViewsStream view lints times given left old new status
+Does remaining is_before terminal filter to titles (Find view limits times) given left old new before after status = FindsInStream view limits times given left old new status
+Does remaining is_before terminal filter to titles (Sites view lints wait_ms times) given left old new before after status = AddsUpStream view lints wait_ms times given left old new status
+Does remaining is_before terminal filter to titles (Page limits) given left old new before after status = PagesStream titles.0 limits given left old new status
+Does remaining is_before terminal filter to titles (Watch options) given left old new before after status = WatchesBy options.keys options (filter_text filter) terminal given left old new status
+Does remaining is_before terminal filter to titles (Metrics options) given left old new before after status = MeasuresTo to options given left old new before after status
+Does remaining is_before terminal filter to titles (Compare options) given left old new before after status = ComparesWith remaining is_before None options given left old new status
+Does remaining is_before terminal filter to titles (PageChanges options) given left old new before after status = ComparesWith remaining is_before (Some titles) options given left old new status
+Does remaining is_before terminal filter to titles Demo given left old new before after status = ShowsDemo given left old new status
 
--- what is asked for is done with the bytes of a file, of which this says which readers have them, and what a reader has left; or it could not be opened,
+-- the same of what the bytes say up to a moment, if one is given. How many of them are left is then not said
+abbrev pub DoesUntil : {F : Type 0} → Option ℕ → (F → Option (List ℕ)) → (F → Type 0) → Canvas → Option (List ℕ) → Option (List ℕ) → Titles → Request → Option (List ℕ) → Option (List ℕ) → Option (List ℕ) → Option (List ℕ) → Option Texts → Option Texts → ℕ → Type 0
+DoesUntil None remaining is_before terminal filter to titles request given left old new before after status =
+    Does remaining is_before terminal filter to titles request given left old new before after status
+DoesUntil (Some moment) remaining is_before terminal filter to titles request given left old new before after status =
+    (rest : Option (List ℕ)) × Does remaining is_before terminal filter to titles request (option_map (front (Some moment)) given) rest old new before after status
+
+-- the moment up to which an input is read, as words name it. One before the end of an input is not asked for
+abbrev pub moment_at : Option Moment → Option ℕ
+moment_at None = None
+moment_at (Some (At moment)) = Some moment
+moment_at (Some (BeforeEnd span)) = None
+
+-- a moment is so long before the end of a file, of which this says which readers have its bytes, and what a reader has left
+abbrev pub IsBeforeEnd : {F : Type 0} → (F → Option (List ℕ)) → (F → Type 0) → ℕ → ℕ → Type 0
+IsBeforeEnd {F} remaining is_of span moment =
+    (file : F) × (is_of file × ((end : ℕ) × (EndsAt (remaining file) end × (moment ≡ moment_before end span))))
+
+-- the moment up to which a file is read, as words name it
+abbrev pub IsMoment : {F : Type 0} → (F → Option (List ℕ)) → (F → Type 0) → Option Moment → Option ℕ → Type 0
+IsMoment remaining is_of (Some (BeforeEnd span)) (Some moment) = IsBeforeEnd remaining is_of span moment
+IsMoment remaining is_of (Some (BeforeEnd span)) None = ⊥
+IsMoment remaining is_of until moment = moment ≡ moment_at until
+
+-- what is asked for is done with the bytes of a file up to the moment that words name. Or the file could not be opened, or its end could not be found,
 -- and nothing was done
-abbrev pub DoesOfFile : {F : Type 0} → (F → Option (List ℕ)) → (F → Type 0) → (F → Type 0) → Canvas → Option (List ℕ) → Option (List ℕ) → List ℕ → Request → Option (List ℕ) → Option (List ℕ) → Option Texts → Option Texts → ℕ → Type 0
-DoesOfFile {F} remaining is_of is_before terminal filter to title request old new before after status =
-    ((file : F) × (is_of file × ((left : Option (List ℕ)) × Does remaining is_before terminal filter to title request (remaining file) left old new before after status)))
+abbrev pub DoesOfFile : {F : Type 0} → Option Moment → (F → Option (List ℕ)) → (F → Type 0) → (F → Type 0) → Canvas → Option (List ℕ) → Option (List ℕ) → Titles → Request → Option (List ℕ) → Option (List ℕ) → Option Texts → Option Texts → ℕ → Type 0
+DoesOfFile {F} until remaining is_of is_before terminal filter to titles request old new before after status =
+    ((moment : Option ℕ) × (IsMoment remaining is_of until moment × ((file : F) × (is_of file
+    × ((left : Option (List ℕ)) × DoesUntil moment remaining is_before terminal filter to titles request (remaining file) left old new before after status)))))
     ⊎ ((status ≡ 1) × ((new ≡ old) × (after ≡ before)))

@@ -3,11 +3,9 @@ use Rattle.std.specs.Prelude.{◌≡◌, ◌≢◌, ◌&&◌, ◌||◌, ◌*◌,
 use Rattle.std.specs.List.{list_all}
 use Rattle.std.specs.Option.{option_map_or}
 use Rattle.std.specs.Str.{bytes_eq}
-use Rattle.std.specs.Str.Parse.{digits_value, without_leading_plus}
 use Rattle.clap.specs.Simple.{App, new_app, new_rule, new_shape, on_top, subcommand_of, with_rule, with_subcommand}
 use Rattle.clap.specs.Kinds.{Kinds, or_else}
 use Rattle.clap.specs.Faults.{fault_of}
-use Rattle.clap.specs.ValueTests.{is_unsigned_in}
 use Rattle.clap.specs.Walk.{Row, Rule, Text, first_of, one_of}
 use Rattle.clap.specs.declared.builder.action.ArgAction.TheVariants.{SetTrue}
 use Rattle.clap.specs.declared.builder.value_parser.ValueParser.TheVariants as vp
@@ -26,8 +24,11 @@ use Rattle.tk_sites.specs.declared.sites_view.SitesView.{SitesView}
 use Rattle.tk_sites.specs.declared.sites_view.SitesView.TheVariants.{All, One}
 use Rattle.tk_metrics.specs.declared.by.By.{By}
 use Rattle.tk_metrics.specs.declared.by.By.TheVariants.{Name, Id, Place}
+use Rattle.taskscope.specs.Moments.{moment_of, number_of}
+use Rattle.taskscope.specs.declared.moments.Moment.{Moment}
+use Rattle.taskscope.specs.declared.moments.Moment.TheVariants.{At, BeforeEnd}
 use Rattle.taskscope.specs.declared.command_line.Request.{Request}
-use Rattle.taskscope.specs.declared.command_line.Request.TheVariants.{Compare, Demo, Find, Metrics, Page, Run, Show, Sites, Watch}
+use Rattle.taskscope.specs.declared.command_line.Request.TheVariants.{Compare, Demo, Find, Metrics, Page, PageChanges, Run, Show, Sites, Watch}
 use Rattle.taskscope.specs.declared.command_line.CompareOptions.{CompareOptions}
 use Rattle.taskscope.specs.declared.command_line.MetricsOptions.{MetricsOptions}
 use Rattle.taskscope.specs.declared.command_line.WatchOptions.{WatchOptions}
@@ -81,13 +82,17 @@ span_option name = record (new_rule name) {
   parser = Some (vp.Unsigned 1 18446744073709551615);
 }
 
+-- the option of a moment: what comes after it is left out
+abbrev pub until_option : Rule
+until_option = text_option (codes "until")
+
 -- such a command that also warns of long polls and long waits, where these options are there: from how many milliseconds on they are long. It tells
 -- what is odd in place of warnings where it is asked to, and adds tasks up where it is said by what
 abbrev pub spans_command : Text → App
 spans_command name =
     let spans = with_rule (with_rule (view_command name) (span_option (codes "long-poll"))) (span_option (codes "long-wait")) in
     let odd = with_rule spans (flag_option (codes "findings")) in
-    with_rule odd (text_option (codes "by"))
+    with_rule (with_rule odd (text_option (codes "by"))) until_option
 
 -- a command that explains a fault where it is asked to
 abbrev pub explaining : App → App
@@ -105,9 +110,15 @@ report_command = explaining (with_rule (with_rule (spans_command (codes "view"))
 abbrev pub lint_command : App
 lint_command = explaining (spans_command (codes "lint"))
 
--- the command that draws a page, with the option of what a long poll is, and that of a title
+-- the later one of two streams that a page compares
+abbrev pub later_argument : Rule
+later_argument = new_rule (codes "AFTER")
+
+-- the command that draws a page, with the options of what a long poll is, of a title, and of a moment, or one of what changed since an earlier stream
 abbrev pub page_command : App
-page_command = with_rule (with_rule (view_command (codes "page")) (span_option (codes "long-poll"))) (text_option (codes "title"))
+page_command =
+    let titled = with_rule (with_rule (view_command (codes "page")) (span_option (codes "long-poll"))) (text_option (codes "title")) in
+    with_rule (with_rule titled until_option) later_argument
 
 -- the command that watches a stream, with the options of what its screens show
 abbrev pub shows_command : App
@@ -133,7 +144,8 @@ metrics_command =
     let kept = with_rule told_apart (text_option (codes "to")) in
     let slow = with_rule kept (number_option (codes "every") (codes "10") 86400) in
     let followed = with_rule slow (flag_option (codes "follow")) in
-    with_rule followed (span_option (codes "series"))
+    let few = with_rule followed (span_option (codes "series")) in
+    with_rule few until_option
 
 -- the earlier one of two streams, which must be named
 abbrev pub before_argument : Rule
@@ -186,10 +198,6 @@ program =
     with_subcommand compares (new_shape (codes "demo"))
 
 -- ---- what they ask for
-
--- the number that a text writes in decimal digits, with or without a plus, below 2^64
-abbrev pub number_of : Text → Option ℕ
-number_of text = if is_unsigned_in 0 18446744073709551615 text then Some (digits_value 10 (without_leading_plus text)) else None
 
 -- the number of an option
 abbrev pub number_at : Text → List Row → Option ℕ
@@ -278,10 +286,6 @@ view_of view options by_place = option_and_then (λ lints. Some (view_by view op
 abbrev pub view_with : View → List Row → Option Request
 view_with view options = option_and_then (view_of view options) (by_place_at view options)
 
--- a page with these options
-abbrev pub page_with : List Row → Option Request
-page_with options = option_and_then (λ lints. Some (Page (limits_in lints options))) (lints_in options)
-
 -- the number of an option, or another where it has none
 abbrev pub number_or : ℕ → Text → List Row → ℕ
 number_or other name options = unwrap_or (number_at name options) other
@@ -289,6 +293,28 @@ number_or other name options = unwrap_or (number_at name options) other
 -- the lints of options, or those where none is given
 abbrev pub lints_or_plain : List Row → LintsView
 lints_or_plain options = unwrap_or (lints_in options) default_lints
+
+-- by which limits something is odd about streams that are compared, and how much more or less is a change: `--at-least` counts milliseconds
+abbrev pub compare_by : List Row → CompareOptions
+compare_by options = record {
+  limits = limits_in (lints_or_plain options) options;
+  margin = record {
+    percent = min (number_or 50 (codes "more-than") options) 4294967295;
+    least = min (number_or 1 (codes "at-least") options * 1000000) 18446744073709551615;
+  };
+}
+
+-- the later one of two streams that a page compares, if there is one
+abbrev pub later_at : List Row → Option Text
+later_at = text_at (codes "AFTER")
+
+-- a page of a stream, or of what changed to a later one
+abbrev pub page_by : List Row → LintsView → Request
+page_by options lints = if is_some (later_at options) then PageChanges (compare_by options) else Page (limits_in lints options)
+
+-- a page with these options
+abbrev pub page_with : List Row → Option Request
+page_with options = option_and_then (λ lints. Some (page_by options lints)) (lints_in options)
 
 -- the column of a name
 abbrev pub column_named : Text → Option Column
@@ -361,16 +387,6 @@ metrics_by by options = record {
 abbrev pub metrics_with : List Row → Option Request
 metrics_with options = option_and_then (λ by. Some (Metrics (metrics_by by options))) (by_at options)
 
--- by which limits something is odd about streams that are compared, and how much more or less is a change: `--at-least` counts milliseconds
-abbrev pub compare_by : List Row → CompareOptions
-compare_by options = record {
-  limits = limits_in (lints_or_plain options) options;
-  margin = record {
-    percent = min (number_or 50 (codes "more-than") options) 4294967295;
-    least = min (number_or 1 (codes "at-least") options * 1000000) 18446744073709551615;
-  };
-}
-
 -- what a command asks for, by its name and its options
 abbrev pub asked_by : Text → List Row → Option Request
 asked_by name options =
@@ -391,9 +407,9 @@ asked_in = option_and_then (λ command. asked_by command.0 command.1)
 abbrev pub asked : List Text → Option Request
 asked words = asked_in (subcommand_of program words)
 
--- the file of a command's words
+-- the file of a command's words that is read: the later one where a page compares two
 abbrev pub file_at : List Row → Option Text
-file_at = text_at (codes "FILE")
+file_at options = option_map_or (λ later. Some later) (later_at options) (text_at (codes "FILE") options)
 
 abbrev pub file_in : Option (Text × List Row) → Option Text
 file_in = option_and_then (λ command. file_at command.1)
@@ -424,9 +440,12 @@ title_of words = title_in (subcommand_of program words)
 abbrev pub title_text : List Text → Text
 title_text words = unwrap_or (title_of words) (unwrap_or (file_of words) (codes "taskscope"))
 
--- the earlier stream that is compared, if the words name one
+-- the earlier stream that is compared, if the words name one: that of a page is its first file, if it has a second
+abbrev pub before_at : List Row → Option Text
+before_at options = option_map_or (λ later. text_at (codes "FILE") options) (later_at options) (text_at (codes "BEFORE") options)
+
 abbrev pub before_in : Option (Text × List Row) → Option Text
-before_in = option_and_then (λ command. text_at (codes "BEFORE") command.1)
+before_in = option_and_then (λ command. before_at command.1)
 
 abbrev pub before_of : List Text → Option Text
 before_of words = before_in (subcommand_of program words)
@@ -442,6 +461,17 @@ to_in = option_and_then (λ command. text_at (codes "to") command.1)
 abbrev pub to_of : List Text → Option Text
 to_of words = to_in (subcommand_of program words)
 
+-- the moment that the option of one names
+abbrev pub until_at : List Row → Option Moment
+until_at options = option_and_then moment_of (text_at (codes "until") options)
+
+-- the moment up to which a stream is read, if the words name one
+abbrev pub until_in : Option (Text × List Row) → Option Moment
+until_in = option_and_then (λ command. until_at command.1)
+
+abbrev pub until_of : List Text → Option Moment
+until_of words = until_in (subcommand_of program words)
+
 -- the words ask that a fault is explained
 abbrev pub explains_in : Option (Text × List Row) → Bool
 explains_in command = option_map_or (λ c. flag_at (codes "explain") c.1) command false
@@ -453,14 +483,27 @@ explains words = explains_in (subcommand_of program words)
 abbrev pub texts : {Z : Type 0} → List (String Z) → List (List ℕ)
 texts = map (λ w. w.bytes.items)
 
+-- a moment can be found: one before the end of a stream only if that is a file, which can be read twice. Where two are compared none is
+abbrev pub can_be_found : List Row → Moment → Bool
+can_be_found options (At moment) = not (is_some (later_at options))
+can_be_found options (BeforeEnd span) = is_some (file_at options) && not (is_some (later_at options))
+
+-- the option of a moment names none that can be found
+abbrev pub names_no_moment : List Row → Bool
+names_no_moment options = is_some (text_at (codes "until") options) && not (option_map_or (can_be_found options) (until_at options) false)
+
 -- an option of a command names nothing that there is: no column of a watch, nothing that tasks are told apart by, or nothing that a view adds them up by
-abbrev pub option_names_nothing : Text → List Row → Bool
-option_names_nothing name options =
+abbrev pub key_names_nothing : Text → List Row → Bool
+key_names_nothing name options =
     if bytes_eq name (codes "watch") then not (is_some (column_at options))
     else if bytes_eq name (codes "metrics") then not (is_some (by_at options))
     else if bytes_eq name (codes "view") then not (is_some (by_place_at Report options))
     else if bytes_eq name (codes "lint") then not (is_some (by_place_at Lint options))
     else false
+
+-- or that of a moment does
+abbrev pub option_names_nothing : Text → List Row → Bool
+option_names_nothing name options = names_no_moment options || key_names_nothing name options
 
 -- so does an option of the command that the words name
 abbrev pub names_nothing : Option (Text × List Row) → Bool

@@ -14,12 +14,13 @@ use crate::help::{
     ABOUT, AFTER_ARGUMENT_HELP, AFTER_HELP, AT_LEAST_HELP, BEFORE_HELP, BY_HELP, BY_PLACE_HELP,
     COMPARE_ABOUT, COMPARE_LONG_ABOUT, DEMO_ABOUT, DEMO_LONG_ABOUT, EVERY_HELP, EVERY_SECONDS_HELP,
     EXPLAIN_HELP, FILE_HELP, FILTER_HELP, FINDINGS_HELP, FOLLOW_HELP, FOLLOW_INTO_HELP, KEYS_HELP,
-    LIMIT_HELP, LINT_ABOUT, LONG_ABOUT, LONG_POLL_HELP, LONG_WAIT_HELP, METRICS_ABOUT,
+    LATER_HELP, LIMIT_HELP, LINT_ABOUT, LONG_ABOUT, LONG_POLL_HELP, LONG_WAIT_HELP, METRICS_ABOUT,
     METRICS_LONG_ABOUT, MORE_THAN_HELP, PAGE_ABOUT, PAGE_LONG_ABOUT, PERCENT_HELP, PLACE_HELP,
     PLAIN_HELP, RESOURCES_HELP, ROWS_HELP, RUN_ABOUT, RUN_LONG_ABOUT, SERIES_HELP, SORT_HELP,
-    TIMES_HELP, TITLE_HELP, TO_HELP, VIEW_ABOUT, VIEW_LONG_ABOUT, WATCH_ABOUT, WATCH_BY_HELP,
-    WATCH_LONG_ABOUT,
+    TIMES_HELP, TITLE_HELP, TO_HELP, UNTIL_HELP, VIEW_ABOUT, VIEW_LONG_ABOUT, WATCH_ABOUT,
+    WATCH_BY_HELP, WATCH_LONG_ABOUT,
 };
+use crate::moments::{Moment, moment_of};
 use clap::builder::ValueParser;
 use clap::error::ErrorKind;
 use clap::{Arg, ArgAction, ArgMatches, Command, Error};
@@ -35,6 +36,7 @@ use tk_report::VERSION;
 use tk_sites::SitesView;
 
 /// A call of the program: what its words ask for, and the texts that they give.
+#[derive(Clone, Copy)]
 pub(crate) struct Call<'a> {
     pub request: Request,
     /// The file whose bytes are meant, where these aren't standard input's.
@@ -47,6 +49,8 @@ pub(crate) struct Call<'a> {
     pub title: &'a str,
     /// The file of the earlier one of two streams that are compared. Else nothing.
     pub before: &'a str,
+    /// The moment up to which a stream is read, where not all of it is.
+    pub until: Option<Moment>,
     /// Whether a fault is explained.
     pub explains: bool,
 }
@@ -79,6 +83,8 @@ pub(crate) enum Request {
     Page {
         limits: Limits,
     },
+    /// To draw what changed from a stream to a later one as one page.
+    PageChanges(CompareOptions),
     /// To draw a stream's tables as a screen while it comes.
     Watch(WatchOptions),
     /// To write a stream's numbers, or to keep them in a file.
@@ -178,9 +184,13 @@ const TITLE: &str = "title";
 
 const BEFORE: &str = "BEFORE";
 
+const LATER: &str = "AFTER";
+
 const MORE_THAN: &str = "more-than";
 
 const AT_LEAST: &str = "at-least";
+
+const UNTIL: &str = "until";
 
 // A command that reads a file or standard input.
 fn reading_command<'a>(
@@ -244,6 +254,22 @@ fn text_arg<'a>(alloc: Global, name: &'a str, value: &'a str, told: &'a str) -> 
         .help(told)
 }
 
+// The option of a moment.
+fn until_arg<'a>(alloc: Global) -> Arg<'a>
+    ensures rule { rule_of result ≡ spec.until_option }
+    ensures local { result.global ≡ false }
+{
+    text_arg(alloc, UNTIL, "MOMENT", UNTIL_HELP)
+}
+
+// The later one of two streams that a page compares.
+fn later_arg<'a>(alloc: Global) -> Arg<'a>
+    ensures rule { rule_of result ≡ spec.later_argument }
+    ensures local { result.global ≡ false }
+{
+    Arg::new(alloc, LATER).help(LATER_HELP)
+}
+
 // An option that is there or not.
 fn flag_arg<'a>(alloc: Global, name: &'a str, told: &'a str) -> Arg<'a>
     ensures rule { rule_of result ≡ spec.flag_option name.entry.now }
@@ -302,12 +328,14 @@ fn spans_command<'a>(
     let long_wait = span_arg(alloc, LONG_WAIT, "MS", LONG_WAIT_HELP);
     let findings = flag_arg(alloc, FINDINGS, FINDINGS_HELP);
     let by = text_arg(alloc, BY, "KEY", BY_PLACE_HELP);
+    let until = until_arg(alloc);
     Ok(
         view_command(alloc, name, about, long_about)?
             .arg(long_poll)?
             .arg(long_wait)?
             .arg(findings)?
-            .arg(by)?,
+            .arg(by)?
+            .arg(until)?,
     )
 }
 
@@ -350,7 +378,7 @@ fn lint_command<'a>(alloc: Global, long_about: &'a str) -> Result<Command<'a>, E
     Ok(lint.arg(explain)?)
 }
 
-// The page, with what a long poll is, and its title.
+// The page, with what a long poll is, its title, and up to when it shows a stream.
 fn page_command<'a>(alloc: Global) -> Result<Command<'a>, Error>
     ensures ok { IfOk result (λ c. app_of c ≡ spec.page_command) }
     ensures local { IfOk result (λ c. (fields_of c).has_globals ≡ false) }
@@ -358,10 +386,14 @@ fn page_command<'a>(alloc: Global) -> Result<Command<'a>, Error>
 {
     let long_poll = span_arg(alloc, LONG_POLL, "MS", LONG_POLL_HELP);
     let title = text_arg(alloc, TITLE, "TEXT", TITLE_HELP);
+    let until = until_arg(alloc);
+    let later = later_arg(alloc);
     Ok(
         view_command(alloc, "page", PAGE_ABOUT, PAGE_LONG_ABOUT)?
             .arg(long_poll)?
-            .arg(title)?,
+            .arg(title)?
+            .arg(until)?
+            .arg(later)?,
     )
 }
 
@@ -416,13 +448,15 @@ fn metrics_command<'a>(alloc: Global) -> Result<Command<'a>, Error>
     let every = number_arg(alloc, EVERY, EVERY_SECONDS_HELP, "10", 86_400);
     let follow = flag_arg(alloc, FOLLOW, FOLLOW_INTO_HELP);
     let series = span_arg(alloc, SERIES, "N", SERIES_HELP);
+    let until = until_arg(alloc);
     Ok(
         view_command(alloc, "metrics", METRICS_ABOUT, METRICS_LONG_ABOUT)?
             .arg(by)?
             .arg(to)?
             .arg(every)?
             .arg(follow)?
-            .arg(series)?,
+            .arg(series)?
+            .arg(until)?,
     )
 }
 
@@ -707,13 +741,30 @@ fn view_with(view: View, options: &ArgMatches) -> Option<Request>
     Some(view_by(view, by_place, lints, options))
 }
 
+// The later one of two streams that a page compares.
+fn later_at<'a>(options: &ArgMatches<'a>) -> Option<&'a str>
+    ensures { option_map (λ later. later.now) result ≡ spec.later_at (rows_of (found_of options.now)) }
+{
+    text_at(options, LATER)
+}
+
+// A page of a stream, or of what changed to a later one.
+fn page_by(lints: Lints, options: &ArgMatches) -> Request
+    ensures { result ≡ spec.page_by (rows_of (found_of options.now)) lints }
+{
+    if later_at(options).is_some() {
+        return Request::PageChanges(compare_by(options));
+    }
+    Request::Page {
+        limits: limits_by(lints, number_at(options, LONG_POLL)),
+    }
+}
+
 fn page_with(options: &ArgMatches) -> Option<Request>
     ensures { result ≡ spec.page_with (rows_of (found_of options.now)) }
 {
     let lints = lints_in(options)?;
-    Some(Request::Page {
-        limits: limits_by(lints, number_at(options, LONG_POLL)),
-    })
+    Some(page_by(lints, options))
 }
 
 fn number_or(options: &ArgMatches, name: &str, other: u64) -> u64
@@ -892,7 +943,10 @@ fn asked_in(matches: &ArgMatches) -> Option<Request>
 fn file_at<'a>(options: &ArgMatches<'a>) -> Option<&'a str>
     ensures { option_map (λ file. file.now) result ≡ spec.file_at (rows_of (found_of options.now)) }
 {
-    text_at(options, FILE)
+    match later_at(options) {
+        Some(later) => Some(later),
+        None => text_at(options, FILE),
+    }
 }
 
 fn file_in<'a>(matches: &ArgMatches<'a>) -> Option<&'a str>
@@ -931,11 +985,36 @@ fn title_in<'a>(matches: &ArgMatches<'a>) -> Option<&'a str>
     }
 }
 
+// The earlier one of two streams: that of a page is its first file, if it has a second.
+fn before_at<'a>(options: &ArgMatches<'a>) -> Option<&'a str>
+    ensures { option_map (λ before. before.now) result ≡ spec.before_at (rows_of (found_of options.now)) }
+{
+    match later_at(options) {
+        Some(_) => text_at(options, FILE),
+        None => text_at(options, BEFORE),
+    }
+}
+
 fn before_in<'a>(matches: &ArgMatches<'a>) -> Option<&'a str>
     ensures { option_map (λ before. before.now) result ≡ spec.before_in (subcommand_rows_of matches.now) }
 {
     match matches.subcommand() {
-        Some((_, options)) => text_at(options, BEFORE),
+        Some((_, options)) => before_at(options),
+        None => None,
+    }
+}
+
+fn until_at(options: &ArgMatches) -> Option<Moment>
+    ensures { result ≡ spec.until_at (rows_of (found_of options.now)) }
+{
+    moment_of(text_at(options, UNTIL)?)
+}
+
+fn until_in(matches: &ArgMatches) -> Option<Moment>
+    ensures { result ≡ spec.until_in (subcommand_rows_of matches.now) }
+{
+    match matches.subcommand() {
+        Some((_, options)) => until_at(options),
         None => None,
     }
 }
@@ -959,9 +1038,32 @@ fn explains_in(matches: &ArgMatches) -> bool
     }
 }
 
-// Whether an option of a command names nothing that there is.
-fn option_names_nothing(name: &str, options: &ArgMatches) -> bool
-    ensures { result ≡ spec.option_names_nothing name.now (rows_of (found_of options.now)) }
+// A moment before the end of a stream can be found only if that is a file, which can be read twice. Where two are compared none is.
+fn can_be_found(options: &ArgMatches, moment: Moment) -> bool
+    ensures { result ≡ spec.can_be_found (rows_of (found_of options.now)) moment }
+{
+    match moment {
+        Moment::At(_) => later_at(options).is_none(),
+        Moment::BeforeEnd(_) => file_at(options).is_some() && later_at(options).is_none(),
+    }
+}
+
+// Whether a moment is asked for, and it is none that can be found.
+fn names_no_moment(options: &ArgMatches) -> bool
+    ensures { result ≡ spec.names_no_moment (rows_of (found_of options.now)) }
+{
+    if text_at(options, UNTIL).is_none() {
+        return false;
+    }
+    match until_at(options) {
+        Some(moment) => !can_be_found(options, moment),
+        None => true,
+    }
+}
+
+// Whether an option names nothing that there is, beside that of a moment.
+fn key_names_nothing(name: &str, options: &ArgMatches) -> bool
+    ensures { result ≡ spec.key_names_nothing name.now (rows_of (found_of options.now)) }
 {
     match name {
         "watch" => column_at(options).is_none(),
@@ -970,6 +1072,13 @@ fn option_names_nothing(name: &str, options: &ArgMatches) -> bool
         "lint" => by_place_at(View::Lint, options).is_none(),
         _ => false,
     }
+}
+
+// Whether an option of a command names nothing that there is.
+fn option_names_nothing(name: &str, options: &ArgMatches) -> bool
+    ensures { result ≡ spec.option_names_nothing name.now (rows_of (found_of options.now)) }
+{
+    names_no_moment(options) || key_names_nothing(name, options)
 }
 
 // Whether an option names nothing that there is.
@@ -1010,9 +1119,26 @@ fn watch_names_there(alloc: Global, options: &ArgMatches) -> Result<String, Allo
     )
 }
 
+// What a moment may be.
+fn moments_there(alloc: Global, options: &ArgMatches) -> Result<String, AllocError> {
+    let word = options.get_str(UNTIL).unwrap_or("");
+    if later_at(options).is_some() {
+        return format!(in alloc; "the argument '--until <MOMENT>' cannot be used with [AFTER]");
+    }
+    if moment_of(word).is_some() {
+        return format!(in alloc;
+            "'--until {word}' is a moment before the end of a stream: that needs a FILE, which is read twice"
+        );
+    }
+    format!(in alloc;
+        "invalid value '{word}' for '--until <MOMENT>'\n  [a number of nanoseconds, or a time before the end of FILE, as 12.5s]"
+    )
+}
+
 // What there is in place of a name that an option has.
 fn names_there(alloc: Global, matches: &ArgMatches) -> Result<String, AllocError> {
     match matches.subcommand() {
+        Some((_, options)) if names_no_moment(options) => moments_there(alloc, options),
         Some(("metrics", options)) => {
             let word = options.get_str(BY).unwrap_or("");
             format!(in alloc;
@@ -1087,6 +1213,7 @@ pub(crate) fn call_of<'a>(
     ensures to { IfOk result (λ call. spec.to_of (texts words.now) ≡ option_map (λ to. to.now) call.to) }
     ensures title { IfOk result (λ call. spec.title_text (texts words.now) ≡ call.title.now) }
     ensures before { IfOk result (λ call. spec.before_text (texts words.now) ≡ call.before.now) }
+    ensures until { IfOk result (λ call. spec.until_of (texts words.now) ≡ call.until) }
     ensures explains { IfOk result (λ call. spec.explains (texts words.now) ≡ call.explains) }
 {
     let matches = matches_of(alloc, words, long_about)?;
@@ -1101,6 +1228,7 @@ pub(crate) fn call_of<'a>(
         to: to_in(&matches),
         title: text_or(title_in(&matches), name),
         before: text_or(before_in(&matches), ""),
+        until: until_in(&matches),
         explains: explains_in(&matches),
     })
 }

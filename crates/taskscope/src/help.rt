@@ -147,6 +147,11 @@ operations come last. At most 200 tasks are drawn, the odd ones first.
 
 The title of the page is the path of the file, or what `--title` says: so two pages in two tabs can be told apart.
 
+With a second file the page shows what changed from the first stream to the second: which places are worse, better,
+new or gone, and which findings are. `taskscope compare --help` says what a change is. The status stays 0.
+
+  taskscope page main.stream new.stream > changes.html
+
 A last line of the stream without its line end is ignored. After a fault nothing is written.";
 
 pub(crate) const WATCH_ABOUT: &str =
@@ -246,6 +251,11 @@ pub(crate) const MORE_THAN_HELP: &str =
 pub(crate) const AT_LEAST_HELP: &str = "And by so many milliseconds of each second, at least";
 
 pub(crate) const TITLE_HELP: &str = "Give the page this title, in place of the path of its file";
+
+pub(crate) const LATER_HELP: &str = "Draw what changed from FILE to this later stream";
+
+pub(crate) const UNTIL_HELP: &str =
+    "Leave out what comes after this moment: nanoseconds, or a time before the end of FILE, as 12.5s";
 
 pub(crate) const DEMO_ABOUT: &str =
     "Runs three small tasks and writes their report to standard output";

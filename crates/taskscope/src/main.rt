@@ -4,6 +4,7 @@
 mod command_line;
 mod files;
 mod help;
+mod moments;
 mod notes;
 mod outputs;
 mod program;

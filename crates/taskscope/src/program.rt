@@ -1,5 +1,5 @@
 //! A run of the program, from its words to its status.
-ghost use Rattle.std.specs.Prelude.{◌≡◌, ◌≢◌, ◌≤◌, ◌⊎◌, true, false, [], codes, IsOk, IsSome, None, Ok};
+ghost use Rattle.std.specs.Prelude.{◌≡◌, ◌≢◌, ◌≤◌, ◌⊎◌, true, false, [], codes, IfErr, IfOk, IsOk, IsSome, None, Ok};
 ghost use Rattle.std.specs.Option.{option_map};
 ghost use Rattle.clap.specs.Values.{kind_of};
 ghost use Rattle.tk_found.specs.Views as found;
@@ -7,11 +7,12 @@ ghost use Rattle.tk_report.specs.Timed.{no_times};
 ghost use Rattle.tk_report.specs.TimedViews.{count_of};
 ghost use Rattle.tk_client.specs.Warnings.{default_lints};
 ghost use Rattle.taskscope.specs.Requests as spec;
-ghost use Rattle.taskscope.specs.Requests.{AsksForFile, AsksForHelp, AsksForInput, AsksForVersion, IsMistake, IsPlain, asked, before_text, file_text, filter_of, is_mistake, plain_metrics, plain_watch, refusals, texts, title_text, to_of};
-ghost use Rattle.taskscope.specs.Program.{AddsUpStream, ComparesBefore, ComparesStreams, ComparesWith, Does, DoesOfFile, FindsInStream, KeepsStream, RunsScript, ViewsStream, WatchesAtKeys, WatchesStream, filter_text, found_status, is_noted, page_status, rows_by, screen_by, status_at, status_of, view_in, view_status};
+ghost use Rattle.taskscope.specs.Requests.{AsksForFile, AsksForHelp, AsksForInput, AsksForVersion, IsMistake, IsPlain, asked, before_text, file_text, filter_of, is_mistake, plain_metrics, plain_watch, refusals, texts, title_text, to_of, until_of};
+ghost use Rattle.taskscope.specs.Program.{AddsUpStream, ComparesBefore, ComparesStreams, ComparesWith, Does, DoesOfFile, DoesUntil, FindsInStream, IsBeforeEnd, IsMoment, KeepsStream, RunsScript, ShowsRecorded, ViewsStream, WatchesAtKeys, WatchesStream, filter_text, found_status, is_noted, moment_at, page_status, rows_by, screen_by, status_at, status_of, view_in, view_status};
 
 use crate::command_line::{Call, CompareOptions, MetricsOptions, Request, WatchOptions, call_of};
 use crate::help::lint_long_about;
+use crate::moments::{Moment, moment_before};
 use crate::notes::note_untimed;
 use crate::sources::Sources;
 use clap::Error;
@@ -26,18 +27,19 @@ use std::time::Clock;
 use std::{fs, io};
 use tk_app::{AppFault, Open, TimesOptions, View, demo, run_script, view_stream_with};
 use tk_client::Lints;
-use tk_compare::{Recorded, compare_recorded, read_recorded};
+use tk_compare::{Margin, Recorded, compare_recorded, read_recorded};
 use tk_explain::{Kept, explain_script, explain_stream};
 use tk_found::view_findings;
 use tk_frame::{Query, Typed};
 use tk_keys::watch_terminal;
 use tk_metrics::{Place, keep_metrics, metrics_stream};
 use tk_odd::Limits;
-use tk_page::view_page_with;
+use tk_page::{view_changes, view_page_with};
 use tk_reading::Every;
 use tk_report::Viewed;
 use tk_screen::Canvas;
 use tk_sites::{SitesView, view_sites};
+use tk_until::{Until, end_of_stream};
 use tk_watch::{Screen, watch_stream};
 
 /// All was done, which may be to show help.
@@ -316,6 +318,7 @@ fn screen_of<'a>(options: &WatchOptions, filter: &'a str, terminal: Canvas) -> S
             typed: Typed::none(),
             resources: options.resources,
             by_place: options.by_place,
+            recent: false,
         },
         lints: options.lints,
         canvas: if options.plain {
@@ -445,63 +448,90 @@ fn tell_fault_of<E: Write>(path: &str, fault: AppFault, faults: &mut E) -> u8
     FAULT
 }
 
-// Reads the later one of two streams, writes what changed, and answers the status: that of warnings, if something got worse.
+// Writes what changed between two streams, and answers the status: that of warnings, if something got worse. With a title and the path of the earlier
+// stream it draws a page, of which the status is that of a page.
+fn show_changes<O: Write, E: Write>(
+    alloc: Global,
+    margin: Margin,
+    page: Option<(&str, &str)>,
+    before: &Recorded,
+    after: &Recorded,
+    output: &mut O,
+    faults: &mut E,
+) -> u8
+    ensures does { ShowsRecorded (option_map (λ t. (t.0.now, t.1.now)) page.entry) margin before.now after.now (O.contents output.old) (O.contents output.new) result }
+    ensures status { (result ≤ FAULT) ⊎ (result ≡ WARNED) }
+{
+    match page {
+        None => {
+            let worse = compare_recorded(alloc, before, after, margin, output);
+            tell_found(View::Lint, worse, faults)
+        }
+        Some((title, path)) => {
+            let worse = view_changes(alloc, title, path, before, after, margin, output);
+            tell_page(worse, faults)
+        }
+    }
+}
+
+// Reads the later one of two streams, and writes what changed.
 fn compare_after<I: Read, O: Write, E: Write>(
     alloc: Global,
     options: CompareOptions,
+    page: Option<(&str, &str)>,
     before: &Recorded,
     input: &mut I,
     output: &mut O,
     faults: &mut E,
 ) -> u8
-    ensures does { ComparesBefore options (Ok before.now) (I.remaining input.old) (I.remaining input.new) (O.contents output.old) (O.contents output.new) result }
+    ensures does { ComparesBefore (option_map (λ t. (t.0.now, t.1.now)) page.entry) options (Ok before.now) (I.remaining input.old) (I.remaining input.new) (O.contents output.old) (O.contents output.new) result }
     ensures status { (result ≤ FAULT) ⊎ (result ≡ WARNED) }
 {
     match read_recorded(alloc, input, options.limits) {
-        Ok(after) => {
-            let worse = compare_recorded(alloc, before, &after, options.margin, output);
-            tell_found(View::Lint, worse, faults)
-        }
+        Ok(after) => show_changes(alloc, options.margin, page, before, &after, output, faults),
         Err(stop) => tell_fault(stop, faults),
     }
 }
 
-// Reads the earlier stream and then the later one, writes what changed, and answers the status.
+// Reads the earlier stream, which a path names, and then the later one, and writes what changed.
 fn compare_streams<F: Read, I: Read, O: Write, E: Write>(
     alloc: Global,
     options: CompareOptions,
+    page: Option<(&str, &str)>,
     path: &str,
     earlier: &mut F,
     input: &mut I,
     output: &mut O,
     faults: &mut E,
 ) -> u8
-    ensures does { ComparesStreams options (F.remaining earlier.old) (I.remaining input.old) (I.remaining input.new) (O.contents output.old) (O.contents output.new) result }
+    ensures does { ComparesStreams (option_map (λ t. (t.0.now, t.1.now)) page.entry) options (F.remaining earlier.old) (I.remaining input.old) (I.remaining input.new) (O.contents output.old) (O.contents output.new) result }
     ensures status { (result ≤ FAULT) ⊎ (result ≡ WARNED) }
 {
     match read_recorded(alloc, earlier, options.limits) {
-        Ok(before) => compare_after(alloc, options, &before, input, output, faults),
+        Ok(before) => compare_after(alloc, options, page, &before, input, output, faults),
         Err(fault) => tell_fault_of(path, fault, faults),
     }
 }
 
-// Writes what changed from the stream that a path names to that of the input, and answers the status.
+// Writes what changed from the stream that a path names to that of the input.
 fn compare<S: Sources, I: Read, O: Write, E: Write>(
     alloc: Global,
     sources: &S,
     options: CompareOptions,
+    page: Option<(&str, &str)>,
     path: &str,
     input: &mut I,
     output: &mut O,
     faults: &mut E,
 ) -> u8
-    ensures does { ComparesWith S.File.remaining (S.is_of sources.now path.now) options (I.remaining input.old) (I.remaining input.new) (O.contents output.old) (O.contents output.new) result }
+    ensures does { ComparesWith S.File.remaining (S.is_of sources.now path.now) (option_map (λ t. (t.0.now, t.1.now)) page.entry) options (I.remaining input.old) (I.remaining input.new) (O.contents output.old) (O.contents output.new) result }
     ensures status { (result ≤ FAULT) ⊎ (result ≡ WARNED) }
 {
     match sources.open(path) {
         Ok(mut earlier) => compare_streams(
             alloc,
             options,
+            page,
             path,
             &mut earlier,
             input,
@@ -512,8 +542,7 @@ fn compare<S: Sources, I: Read, O: Write, E: Write>(
     }
 }
 
-// Does what is asked for without keys, with this filter and terminal for a watch, this path for numbers, this title for a page, and this
-// path of an earlier stream, and answers the status.
+// Does what a call asks for without keys, and answers the status. Whether more is told of a stream's fault is not asked here.
 fn fulfil<
     R: Threads + Wait + Sync + RandomSource + AllocGlobal + Clock,
     S: Sources,
@@ -525,26 +554,21 @@ fn fulfil<
     rt: &R,
     alloc: Global,
     sources: &S,
-    request: Request,
-    filter: Option<&str>,
-    to: Option<&str>,
-    title: &str,
-    before: &str,
+    call: &Call<'_>,
     terminal: Canvas,
-    explains: bool,
     input: &mut I,
     output: &mut O,
     place: &mut P,
     faults: &mut E,
 ) -> u8
-    requires { spec.at_keys request ≡ None }
-    ensures does { Does S.File.remaining (S.is_of sources.now before.now) terminal (option_map (λ f. f.now) filter.entry) (option_map (λ p. p.now) to.entry) title.now request
+    requires { spec.at_keys call.now.request ≡ None }
+    ensures does { Does S.File.remaining (S.is_of sources.now call.now.before.now) terminal (option_map (λ f. f.now) call.now.filter) (option_map (λ p. p.now) call.now.to) (call.now.title.now, call.now.before.now) call.now.request
         (I.remaining input.old) (I.remaining input.new) (O.contents output.old) (O.contents output.new) (P.texts place.old) (P.texts place.new) result }
-    ensures kept { option_map (λ p. p.now) to.entry ≡ None → place.new ≡ place.old }
+    ensures kept { option_map (λ p. p.now) call.now.to ≡ None → place.new ≡ place.old }
     ensures status { (result ≤ FAULT) ⊎ (result ≡ WARNED) }
 {
-    match request {
-        Request::Run => run(rt, alloc, input, output, explains, faults),
+    match call.request {
+        Request::Run => run(rt, alloc, input, output, call.explains, faults),
         Request::Show {
             view: shown,
             lints,
@@ -571,28 +595,196 @@ fn fulfil<
             status
         }
         Request::Page { limits } => tell_page(
-            view_page_with(alloc, input, output, limits, title),
+            view_page_with(alloc, input, output, limits, call.title),
             faults,
         ),
         Request::Watch(options) => {
-            let text = filter_text(filter);
+            let text = filter_text(call.filter);
             watch(rt, alloc, &options, text, terminal, input, output, faults)
         }
-        Request::Metrics(options) => match to {
+        Request::Metrics(options) => match call.to {
             Some(path) => keep(rt, alloc, &options, path, input, place, faults),
             None => tell_outcome(
                 metrics_stream(alloc, input, output, options.apart, &options.lints),
                 faults,
             ),
         },
-        Request::Compare(options) => {
-            compare(alloc, sources, options, before, input, output, faults)
-        }
+        Request::Compare(options) => compare(
+            alloc,
+            sources,
+            options,
+            None,
+            call.before,
+            input,
+            output,
+            faults,
+        ),
+        Request::PageChanges(options) => compare(
+            alloc,
+            sources,
+            options,
+            Some((call.title, call.before)),
+            call.before,
+            input,
+            output,
+            faults,
+        ),
         Request::Demo => tell_outcome(demo(rt, alloc, output), faults),
     }
 }
 
-// Does what is asked for with the bytes of the input.
+// Does what a call asks for without keys, and answers the reader, as its reads left it, and the status. More is told of a stream's fault if the call
+// asks for it.
+fn fulfil_explained<
+    R: Threads + Wait + Sync + RandomSource + AllocGlobal + Clock,
+    S: Sources,
+    I: Read,
+    O: Write,
+    P: Place,
+    E: Write,
+>(
+    rt: &R,
+    alloc: Global,
+    sources: &S,
+    call: &Call<'_>,
+    terminal: Canvas,
+    mut input: I,
+    output: &mut O,
+    place: &mut P,
+    faults: &mut E,
+) -> (I, u8)
+    requires { spec.at_keys call.now.request ≡ None }
+    ensures does { Does S.File.remaining (S.is_of sources.now call.now.before.now) terminal (option_map (λ f. f.now) call.now.filter) (option_map (λ p. p.now) call.now.to) (call.now.title.now, call.now.before.now) call.now.request
+        (I.remaining input) (I.remaining result.0) (O.contents output.old) (O.contents output.new) (P.texts place.old) (P.texts place.new) result.1 }
+    ensures kept { option_map (λ p. p.now) call.now.to ≡ None → place.new ≡ place.old }
+    ensures status { (result.1 ≤ FAULT) ⊎ (result.1 ≡ WARNED) }
+{
+    let request = call.request;
+    if call.explains {
+        if let Request::Show {
+            view: shown,
+            lints,
+            times,
+        } = request
+        {
+            return view_explained(alloc, shown, &lints, &times, input, output, faults);
+        }
+        if let Request::Find {
+            view,
+            limits,
+            times,
+        } = request
+        {
+            return find_explained(alloc, view, limits, times, input, output, faults);
+        }
+        if let Request::Sites {
+            view,
+            lints,
+            wait_ms,
+            times,
+        } = request
+        {
+            return add_up_explained(alloc, view, &lints, wait_ms, times, input, output, faults);
+        }
+    }
+    let status = fulfil(
+        rt, alloc, sources, call, terminal, &mut input, output, place, faults,
+    );
+    (input, status)
+}
+
+// The same of what the reader says up to a moment, if one is given.
+fn fulfil_until<
+    R: Threads + Wait + Sync + RandomSource + AllocGlobal + Clock,
+    S: Sources,
+    I: Read,
+    O: Write,
+    P: Place,
+    E: Write,
+>(
+    rt: &R,
+    alloc: Global,
+    sources: &S,
+    call: &Call<'_>,
+    terminal: Canvas,
+    until: Option<u64>,
+    input: I,
+    output: &mut O,
+    place: &mut P,
+    faults: &mut E,
+) -> (I, u8)
+    requires { spec.at_keys call.now.request ≡ None }
+    ensures does { DoesUntil until S.File.remaining (S.is_of sources.now call.now.before.now) terminal (option_map (λ f. f.now) call.now.filter) (option_map (λ p. p.now) call.now.to) (call.now.title.now, call.now.before.now) call.now.request
+        (I.remaining input) (I.remaining result.0) (O.contents output.old) (O.contents output.new) (P.texts place.old) (P.texts place.new) result.1 }
+    ensures kept { option_map (λ p. p.now) call.now.to ≡ None → place.new ≡ place.old }
+    ensures status { (result.1 ≤ FAULT) ⊎ (result.1 ≡ WARNED) }
+{
+    match until {
+        None => fulfil_explained(
+            rt, alloc, sources, call, terminal, input, output, place, faults,
+        ),
+        Some(moment) => {
+            let front = Until::new(alloc, input, Some(moment));
+            let (left, status) = fulfil_explained(
+                rt, alloc, sources, call, terminal, front, output, place, faults,
+            );
+            (left.into_reader(), status)
+        }
+    }
+}
+
+// The moment up to which an input is read. Words that name one before the end of an input are refused.
+fn moment_at(until: Option<Moment>) -> Option<u64>
+    ensures { result ≡ moment_at until }
+{
+    match until? {
+        Moment::At(moment) => Some(moment),
+        Moment::BeforeEnd(_) => None,
+    }
+}
+
+// The moment so long before the end of the file that a path names, or else the status of a fault that was told.
+fn moment_before_end<S: Sources, E: Write>(
+    alloc: Global,
+    sources: &S,
+    span: u64,
+    path: &str,
+    faults: &mut E,
+) -> Result<u64, u8>
+    ensures ok { IfOk result (λ moment. IsBeforeEnd S.File.remaining (S.is_of sources.now path.now) span moment) }
+    ensures err { IfErr result (λ status. status ≡ FAULT) }
+{
+    let mut file = match sources.open(path) {
+        Ok(file) => file,
+        Err(error) => return Err(tell_unopened(path, error, faults)),
+    };
+    match end_of_stream(alloc, &mut file) {
+        Ok(end) => Ok(moment_before(end, span)),
+        Err(fault) => Err(tell_fault(fault, faults)),
+    }
+}
+
+// The moment up to which the file that a path names is read, or else the status of a fault that was told.
+fn moment_of_file<S: Sources, E: Write>(
+    alloc: Global,
+    sources: &S,
+    until: Option<Moment>,
+    path: &str,
+    faults: &mut E,
+) -> Result<Option<u64>, u8>
+    ensures ok { IfOk result (λ moment. IsMoment S.File.remaining (S.is_of sources.now path.now) until moment) }
+    ensures err { IfErr result (λ status. status ≡ FAULT) }
+{
+    match until {
+        None => Ok(None),
+        Some(Moment::At(moment)) => Ok(Some(moment)),
+        Some(Moment::BeforeEnd(span)) => {
+            Ok(Some(moment_before_end(alloc, sources, span, path, faults)?))
+        }
+    }
+}
+
+// Does what a call asks for with the bytes of the input.
 fn fulfil_of_input<
     R: Threads
         + Wait
@@ -614,13 +806,8 @@ fn fulfil_of_input<
     rt: &R,
     alloc: Global,
     sources: &S,
-    request: Request,
-    filter: Option<&str>,
-    to: Option<&str>,
-    title: &str,
-    before: &str,
+    call: &Call<'_>,
     terminal: Canvas,
-    explains: bool,
     input: &mut I,
     output: &mut O,
     place: &mut P,
@@ -628,61 +815,32 @@ fn fulfil_of_input<
 ) -> u8
 where
     R::File: Send + 'static,
-    ensures does { Does S.File.remaining (S.is_of sources.now before.now) terminal (option_map (λ f. f.now) filter.entry) (option_map (λ p. p.now) to.entry) title.now request
+    ensures does { DoesUntil (moment_at call.now.until) S.File.remaining (S.is_of sources.now call.now.before.now) terminal (option_map (λ f. f.now) call.now.filter) (option_map (λ p. p.now) call.now.to) (call.now.title.now, call.now.before.now) call.now.request
         (I.remaining input.old) (I.remaining input.new) (O.contents output.old) (O.contents output.new) (P.texts place.old) (P.texts place.new) result }
-    ensures kept { option_map (λ p. p.now) to.entry ≡ None → place.new ≡ place.old }
+    ensures kept { option_map (λ p. p.now) call.now.to ≡ None → place.new ≡ place.old }
     ensures status { (result ≤ FAULT) ⊎ (result ≡ WARNED) }
 {
-    if explains {
-        if let Request::Show {
-            view: shown,
-            lints,
-            times,
-        } = request
-        {
-            let (left, status) = view_explained(
-                alloc, shown, &lints, &times, *input, output, faults,
-            );
-            *input = left;
-            return status;
-        }
-        if let Request::Find {
-            view,
-            limits,
-            times,
-        } = request
-        {
-            let (left, status) = find_explained(alloc, view, limits, times, *input, output, faults);
-            *input = left;
-            return status;
-        }
-        if let Request::Sites {
-            view,
-            lints,
-            wait_ms,
-            times,
-        } = request
-        {
-            let (left, status) = add_up_explained(
-                alloc, view, &lints, wait_ms, times, *input, output, faults,
-            );
-            *input = left;
-            return status;
-        }
+    if let Some(options) = at_keys(&call.request) {
+        let text = filter_text(call.filter);
+        return watch_at_keys(rt, alloc, &options, text, terminal, *input, output, faults);
     }
-    match at_keys(&request) {
-        Some(options) => {
-            let text = filter_text(filter);
-            watch_at_keys(rt, alloc, &options, text, terminal, *input, output, faults)
-        }
-        None => fulfil(
-            rt, alloc, sources, request, filter, to, title, before, terminal, explains, input,
-            output, place, faults,
-        ),
-    }
+    let (left, status) = fulfil_until(
+        rt,
+        alloc,
+        sources,
+        call,
+        terminal,
+        moment_at(call.until),
+        *input,
+        output,
+        place,
+        faults,
+    );
+    *input = left;
+    status
 }
 
-// Does what is asked for with the bytes of the file that a path names.
+// Does what a call asks for with the bytes of the file that a path names.
 fn fulfil_of_file<
     R: Threads
         + Wait
@@ -703,13 +861,8 @@ fn fulfil_of_file<
     rt: &R,
     alloc: Global,
     sources: &S,
-    request: Request,
-    filter: Option<&str>,
-    to: Option<&str>,
-    title: &str,
-    before: &str,
+    call: &Call<'_>,
     terminal: Canvas,
-    explains: bool,
     path: &str,
     output: &mut O,
     place: &mut P,
@@ -717,58 +870,28 @@ fn fulfil_of_file<
 ) -> u8
 where
     R::File: Send + 'static,
-    ensures does { DoesOfFile S.File.remaining (S.is_of sources.now path.now) (S.is_of sources.now before.now) terminal
-        (option_map (λ f. f.now) filter.entry) (option_map (λ p. p.now) to.entry) title.now request
+    ensures does { DoesOfFile call.now.until S.File.remaining (S.is_of sources.now path.now) (S.is_of sources.now call.now.before.now) terminal
+        (option_map (λ f. f.now) call.now.filter) (option_map (λ p. p.now) call.now.to) (call.now.title.now, call.now.before.now) call.now.request
         (O.contents output.old) (O.contents output.new) (P.texts place.old) (P.texts place.new) result }
-    ensures kept { option_map (λ p. p.now) to.entry ≡ None → place.new ≡ place.old }
+    ensures kept { option_map (λ p. p.now) call.now.to ≡ None → place.new ≡ place.old }
     ensures status { (result ≤ FAULT) ⊎ (result ≡ WARNED) }
 {
-    let mut file = match sources.open(path) {
+    let until = match moment_of_file(alloc, sources, call.until, path, faults) {
+        Ok(until) => until,
+        Err(status) => return status,
+    };
+    let file = match sources.open(path) {
         Ok(file) => file,
         Err(error) => return tell_unopened(path, error, faults),
     };
-    if explains {
-        if let Request::Show {
-            view: shown,
-            lints,
-            times,
-        } = request
-        {
-            let (_, status) = view_explained(alloc, shown, &lints, &times, file, output, faults);
-            return status;
-        }
-        if let Request::Find {
-            view,
-            limits,
-            times,
-        } = request
-        {
-            let (_, status) = find_explained(alloc, view, limits, times, file, output, faults);
-            return status;
-        }
-        if let Request::Sites {
-            view,
-            lints,
-            wait_ms,
-            times,
-        } = request
-        {
-            let (_, status) = add_up_explained(
-                alloc, view, &lints, wait_ms, times, file, output, faults,
-            );
-            return status;
-        }
+    if let Some(options) = at_keys(&call.request) {
+        let text = filter_text(call.filter);
+        return watch_at_keys(rt, alloc, &options, text, terminal, file, output, faults);
     }
-    match at_keys(&request) {
-        Some(options) => {
-            let text = filter_text(filter);
-            watch_at_keys(rt, alloc, &options, text, terminal, file, output, faults)
-        }
-        None => fulfil(
-            rt, alloc, sources, request, filter, to, title, before, terminal, explains, &mut file,
-            output, place, faults,
-        ),
-    }
+    let (_, status) = fulfil_until(
+        rt, alloc, sources, call, terminal, until, file, output, place, faults,
+    );
+    status
 }
 
 // What clap answers when it gives no request: help, the version, a mistake in the words, or want of memory.
@@ -839,17 +962,17 @@ pub(crate) fn run_program<
 ) -> u8
 where
     R::File: Send + 'static,
-    // What is asked for is done: a run reads and writes as `run_script` does, a view as `view_stream_with` does, as `view_sites` does by place, or as `view_findings` does where
+    // What is asked for is done, of what the input says up to the moment that the words name, if they name one: a run reads and writes as `run_script` does, a view as `view_stream_with` does, as `view_sites` does by place, or as `view_findings` does where
     // what is odd is asked for, a page as `view_page_with` does, a watch as `watch_stream` does, or as `watch_terminal` does of some stream where keys are heard, numbers as
     // `metrics_stream` does, or as `keep_metrics` does where a path is given, a comparison as `read_recorded` and `compare_recorded` do, and the demo writes as `demo` does. The status is 1 exactly where there was a fault, and 3 exactly where `lint` found warnings, or findings where they are asked for, or where a comparison found that something got worse.
     ensures does { (request : Request) → AsksForInput request (texts words.now)
-        → Does S.File.remaining (S.is_of sources.now (before_text (texts words.now))) terminal (filter_of (texts words.now)) (to_of (texts words.now)) (title_text (texts words.now)) request
+        → DoesUntil (moment_at (until_of (texts words.now))) S.File.remaining (S.is_of sources.now (before_text (texts words.now))) terminal (filter_of (texts words.now)) (to_of (texts words.now)) (title_text (texts words.now), before_text (texts words.now)) request
         (I.remaining input.old) (I.remaining input.new) (O.contents output.old) (O.contents output.new) (P.texts place.old) (P.texts place.new) result }
     // With a file the same is done of the bytes that stand under the path that the words name, or it could not be opened. The input is as it was.
     ensures file { (request : Request) → AsksForFile request (texts words.now)
         → (input.new ≡ input.old)
-        × DoesOfFile S.File.remaining (S.is_of sources.now (file_text (texts words.now))) (S.is_of sources.now (before_text (texts words.now))) terminal
-        (filter_of (texts words.now)) (to_of (texts words.now)) (title_text (texts words.now)) request
+        × DoesOfFile (until_of (texts words.now)) S.File.remaining (S.is_of sources.now (file_text (texts words.now))) (S.is_of sources.now (before_text (texts words.now))) terminal
+        (filter_of (texts words.now)) (to_of (texts words.now)) (title_text (texts words.now), before_text (texts words.now)) request
         (O.contents output.old) (O.contents output.new) (P.texts place.old) (P.texts place.new) result }
     // Numbers alone are put in a place, and only where the words are taken and name a path.
     ensures kept { refusals (texts words.now) ≡ [] → to_of (texts words.now) ≡ None → place.new ≡ place.old }
@@ -877,26 +1000,16 @@ where
 {
     // Help alone shows it.
     let long_about = lint_long_about(alloc).unwrap_or(String::new(alloc));
-    let Call {
-        request,
-        file,
-        filter,
-        to,
-        title,
-        before,
-        explains,
-    } = match call_of(alloc, words, long_about.as_str()) {
+    let call = match call_of(alloc, words, long_about.as_str()) {
         Ok(call) => call,
         Err(error) => return answer(error, output, faults),
     };
-    match file {
+    match call.file {
         Some(path) => fulfil_of_file(
-            rt, alloc, sources, request, filter, to, title, before, terminal, explains, path,
-            output, place, faults,
+            rt, alloc, sources, &call, terminal, path, output, place, faults,
         ),
         None => fulfil_of_input(
-            rt, alloc, sources, request, filter, to, title, before, terminal, explains, input,
-            output, place, faults,
+            rt, alloc, sources, &call, terminal, input, output, place, faults,
         ),
     }
 }

@@ -35,10 +35,11 @@ pub records_all : {O : Type 0} {saw : List Timed → O → Type 0} {given : Opti
     → r.span ≡ client.start.tables.now
     → ((shown : List TablesView) → Follows shown sites → r.sites ≡ sites_of shown client.start.tables [])
     → ((seen : List Timed) → FollowsTimes true seen timed → r.times ≡ timed_sites seen client.start.tables client.start.times)
+    → ((shown : List TablesView) → FollowsOdd shown diagnosis → r.held ≡ (standing_of diagnosis.limits shown).places.0)
     → ((shown : List TablesView) → FollowsOdd shown diagnosis
     → names_kept r ≡ map finding_name (findings_of diagnosis.limits (standing_of diagnosis.limits shown) client.start.tables))
     → IsRecorded given limits r
-records_all {O} {saw} {given} {client} {it} all limits sites timed diagnosis r sees span adds times finds =
+records_all {O} {saw} {given} {client} {it} all limits sites timed diagnosis r sees span adds times holds finds =
     let seen : Follows (shown_of all.bytes) sites × FollowsTimes true (timed_of all.bytes) timed × FollowsOdd (shown_of all.bytes) diagnosis × (diagnosis.limits ≡ limits) =
     sees _ all.seen in
     record {
@@ -47,6 +48,7 @@ records_all {O} {saw} {given} {client} {it} all limits sites timed diagnosis r s
       span = span;
       sites = adds (shown_of all.bytes) seen.0;
       times = times (timed_of all.bytes) seen.1;
+      held = holds (shown_of all.bytes) seen.2 ∙ ap (λ (l : Limits). (standing_of l (shown_of all.bytes)).places.0) seen.3;
       findings = finds (shown_of all.bytes) seen.2
           ∙ ap (λ (l : Limits). map finding_name (findings_of l (standing_of l (shown_of all.bytes)) client.start.tables)) seen.3;
     }

@@ -30,13 +30,15 @@ words_of word before after = word ∷ decimal before ∷ decimal after ∷ ratio
 abbrev pub words_in_hundredths : List ℕ → ℕ → ℕ → List (List ℕ)
 words_in_hundredths word before after = word ∷ hundredths_text before ∷ hundredths_text after ∷ ratio_text before after ∷ []
 
--- the line of a place, after a word: how many polls started in a second, how long they ran in it, and how long tasks waited in it
+-- the line of a place, after a word: how many polls started in a second, how long they ran in it, how long tasks waited in it, and how long
+-- others waited in it while they ran long
 abbrev pub place_line : Spans → List ℕ → List ℕ × Compared → List ℕ
 place_line spans word x = line word
     (words_in_hundredths (codes "polls") (rate_in_hundredths spans.before x.1.before.polls) (rate_in_hundredths spans.after x.1.after.polls)
     ++ (words_of (codes "ran") (rate spans.before x.1.before.ran) (rate spans.after x.1.after.ran)
     ++ (words_of (codes "waited") (rate spans.before x.1.before.waited) (rate spans.after x.1.after.waited)
-    ++ (codes "kind" ∷ x.0 ∷ []))))
+    ++ (words_of (codes "held-up") (rate spans.before x.1.before.held) (rate spans.after x.1.after.held)
+    ++ (codes "kind" ∷ x.0 ∷ [])))))
 
 -- the same, and below it its histograms
 abbrev pub place_text : Spans → List ℕ → List ℕ × Compared → List ℕ

@@ -28,13 +28,14 @@ names_in limits bytes tables = map finding_name (findings_of limits (standing_of
 abbrev pub names_kept : Recorded → List (List ℕ)
 names_kept r = texts r.findings.items
 
--- all bytes of a reader come to this: its last moment, its places, their histograms, and what is odd about it
+-- all bytes of a reader come to this: its last moment, its places, their histograms, how they held up others, and what is odd about it
 pub record IsRecorded (given : Option (List ℕ)) (limits : Limits) (r : Recorded) : Type 0 where
   pub start : Start
   pub lead : LeadToStart given start
   pub span : r.span ≡ start.tables.now
   pub sites : r.sites ≡ sites_of (shown_of lead.bytes) start.tables []
   pub times : r.times ≡ timed_sites (timed_of lead.bytes) start.tables start.times
+  pub held : r.held ≡ (standing_of limits (shown_of lead.bytes)).places.0
   pub findings : names_kept r ≡ names_in limits lead.bytes start.tables
 
 -- what reading a stream came to, by its answer: of the reader's bytes that were given and those that are left

@@ -59,7 +59,7 @@ pub fn rate(span: u64, n: u64) -> u64
 }
 
 /// The same in hundredths.
-pub(crate) fn rate_in_hundredths(span: u64, n: u64) -> u64
+pub fn rate_in_hundredths(span: u64, n: u64) -> u64
     ensures { result ≡ spec.rate_in_hundredths span n }
 {
     let all = u128::from(n) * (100 * SECOND);

@@ -166,8 +166,8 @@ pub fn compare_findings(
 }
 
 impl Standing {
-    // Where its lines stand.
-    fn rank(self) -> u8
+    /// Where its lines stand: what is new first, what is still there last.
+    pub fn rank(self) -> u8
         ensures { result ≡ spec.rank_of self }
     {
         match self {

@@ -133,6 +133,7 @@ fn put_line(
     put_polls(out, alloc, spans, old.polls, new.polls)?;
     put_rates(out, alloc, spans, "ran", old.ran, new.ran)?;
     put_rates(out, alloc, spans, "waited", old.waited, new.waited)?;
+    put_rates(out, alloc, spans, "held-up", old.held, new.held)?;
     put_site(out, site)?;
     Ok(())
 }
@@ -154,8 +155,8 @@ fn put_place(
 }
 
 impl Change {
-    /// Where its lines stand.
-    pub(crate) fn rank(self) -> u8
+    /// Where its lines stand: what is worse first, what is gone last, and what is the same not at all.
+    pub fn rank(self) -> u8
         ensures { result ≡ spec.rank_of self }
     {
         match self {
@@ -167,7 +168,8 @@ impl Change {
         }
     }
 
-    fn word(self) -> &'static str
+    /// Its word.
+    pub fn word(self) -> &'static str
         ensures { result.now ≡ spec.word_of self }
     {
         match self {

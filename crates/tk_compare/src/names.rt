@@ -15,8 +15,8 @@ pub(crate) fn push_name(names: &mut Vec<Vec<u8>>, name: Vec<u8>) -> Result<(), A
     Ok(())
 }
 
-// Whether a name is one of these.
-fn is_among(names: &[Vec<u8>], name: &[u8]) -> bool
+/// Whether a name is one of these.
+pub(crate) fn is_among(names: &[Vec<u8>], name: &[u8]) -> bool
     ensures { result ≡ is_seen (spec.texts names.now) name.now }
 {
     for other in names {

@@ -9,10 +9,11 @@ ghost use Rattle.tk_compare.specs.Names as naming;
 ghost use Rattle.tk_compare.specs.Spent as spent;
 ghost use Rattle.tk_compare.specs.declared.spent.Compared.{Compared as ComparedView};
 
-use crate::names::{compared_by, loosened, push_name};
+use crate::names::{compared_by, is_among, loosened, push_name};
 use crate::recorded::Recorded;
 use crate::spent::{Compared, Part, Side};
 use std::alloc::{AllocError, Global};
+use tk_odd::Held;
 use tk_series::{Limited, Series};
 use tk_sites::{Sums, more_site};
 
@@ -164,6 +165,71 @@ fn add_all<P: Part>(
     Ok(())
 }
 
+// Adds a place that held up others, of a stream whose places have these names.
+fn add_held_one(
+    places: &mut Series<Compared>,
+    alloc: Global,
+    side: Side,
+    own: &[Vec<u8>],
+    loose: &[Vec<u8>],
+    others: &[Vec<u8>],
+    site: &[u8],
+    held: Held,
+) -> Result<(), AllocError>
+    ensures { OnOk result (places.new ≡ with_value spent.plus
+        (naming.by_loose (naming.texts loose.now) (naming.texts others.now) (spec.place_among (naming.texts own.now) site.now))
+        (spent.in_stream side (spent.held_of held)) places.old) }
+{
+    if is_among(own, site) {
+        add_site(places, alloc, side, loose, others, site, held)
+    } else {
+        let rest = more_site().as_bytes();
+        add_site(places, alloc, side, loose, others, rest, held)
+    }
+}
+
+// Adds the one that stands there.
+fn add_held_at(
+    places: &mut Series<Compared>,
+    alloc: Global,
+    side: Side,
+    own: &[Vec<u8>],
+    loose: &[Vec<u8>],
+    others: &[Vec<u8>],
+    all: &Series<Held>,
+    at: usize,
+) -> Result<(), AllocError>
+    ensures { OnOk result (places.new ≡ option_map_or
+        (λ x. with_value spent.plus (spec.held_entry side (naming.texts own.now) (naming.texts loose.now) (naming.texts others.now) x).0
+        (spec.held_entry side (naming.texts own.now) (naming.texts loose.now) (naming.texts others.now) x).1 places.old)
+        (slice_get all.now at) places.old) }
+{
+    match all.at(at) {
+        Some((site, held)) => add_held_one(places, alloc, side, own, loose, others, site, held),
+        None => Ok(()),
+    }
+}
+
+// Adds all places of a stream that held up others.
+fn add_held(
+    places: &mut Series<Compared>,
+    alloc: Global,
+    side: Side,
+    own: &[Vec<u8>],
+    loose: &[Vec<u8>],
+    others: &[Vec<u8>],
+    all: &Series<Held>,
+) -> Result<(), AllocError>
+    ensures { (xs : List (List ℕ × ComparedView)) → places.old ≡ series_of spent.plus xs
+        → OnOk result (places.new ≡ series_of spent.plus
+        (xs ++ map (spec.held_entry side (naming.texts own.now) (naming.texts loose.now) (naming.texts others.now)) all.now)) }
+{
+    for at in 0..all.len() {
+        add_held_at(places, alloc, side, own, loose, others, all, at)?;
+    }
+    Ok(())
+}
+
 // Adds what a stream adds, of whose places these are the names, beside those of the other.
 fn add_stream(
     places: &mut Series<Compared>,
@@ -180,6 +246,7 @@ fn add_stream(
     let loose = loose.as_slice();
     add_all(places, alloc, side, loose, others, &stream.sites)?;
     add_all(places, alloc, side, loose, others, &stream.times)?;
+    add_held(places, alloc, side, own, loose, others, &stream.held)?;
     Ok(())
 }
 

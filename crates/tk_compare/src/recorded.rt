@@ -18,9 +18,9 @@ use std::alloc::{AllocError, Global};
 use std::io::Read;
 use tk_client::Client;
 use tk_fault::AppFault;
-use tk_odd::{Diagnosis, Found, Limits};
+use tk_odd::{Diagnosis, Found, Held, Limits};
 use tk_reading::{Both, MAX_LINE, read_stream};
-use tk_series::Limited;
+use tk_series::{Limited, Series};
 use tk_sites::{SiteTimes, Sites, Sums, TimedSites};
 
 /// A stream, as it is compared.
@@ -32,6 +32,8 @@ pub struct Recorded {
     pub(crate) sites: Limited<Sums>,
     // The histograms of its places.
     pub(crate) times: Limited<SiteTimes>,
+    // How its places held up others.
+    pub(crate) held: Series<Held>,
     // The names of what is odd about it, worst first.
     pub(crate) findings: Vec<Vec<u8>>,
 }
@@ -99,6 +101,8 @@ fn recorded_now(alloc: Global, client: &Client, watched: &Watched) -> Result<Rec
         → IfOk result (λ r. r.sites ≡ sites_of shown client.now.start.tables []) }
     ensures times { (seen : List Timed) → FollowsTimes true seen watched.now.first.second
         → IfOk result (λ r. r.times ≡ timed_sites seen client.now.start.tables client.now.start.times) }
+    ensures held { (shown : List TablesView) → FollowsOdd shown watched.now.second
+        → IfOk result (λ r. r.held ≡ (standing_of watched.now.second.limits shown).places.0) }
     ensures findings { (shown : List TablesView) → FollowsOdd shown watched.now.second
         → IfOk result (λ r. spec.names_kept r
         ≡ map spec.finding_name (odd.findings_of watched.now.second.limits (standing_of watched.now.second.limits shown) client.now.start.tables)) }
@@ -108,10 +112,12 @@ fn recorded_now(alloc: Global, client: &Client, watched: &Watched) -> Result<Rec
     let findings = finding_names(alloc, list.as_slice())?;
     let sites = watched.first.first.sums(tables, &[])?;
     let times = times_now(alloc, client, &watched.first.second)?;
+    let held = watched.second.held().copy()?;
     Ok(Recorded {
         span: tables.now(),
         sites,
         times,
+        held,
         findings,
     })
 }

@@ -3,6 +3,7 @@ ghost use Rattle.std.specs.Prelude.{◌≡◌};
 ghost use Rattle.tk_sites.specs.Times as times;
 ghost use Rattle.tk_compare.specs.Spent as spec;
 
+use tk_odd::Held;
 use tk_series::Added;
 use tk_sites::{Histogram, SiteTimes, Sums};
 
@@ -26,6 +27,8 @@ pub struct Spent {
     pub ran: u64,
     /// How long tasks waited, in nanoseconds: all of it where a task counts that, and else since its last wakes.
     pub waited: u64,
+    /// How long others waited while a task of them ran long, in nanoseconds, at least.
+    pub held: u64,
     /// The histograms of how long polls ran and tasks waited, where tasks have such.
     pub times: SiteTimes,
 }
@@ -69,6 +72,7 @@ impl Spent {
             polls: 0,
             ran: 0,
             waited: 0,
+            held: 0,
             times: SiteTimes {
                 polls: no_histogram(),
                 waits: no_histogram(),
@@ -84,6 +88,7 @@ impl Spent {
             polls: self.polls.saturating_add(more.polls),
             ran: self.ran.saturating_add(more.ran),
             waited: self.waited.saturating_add(more.waited),
+            held: self.held.saturating_add(more.held),
             times: self.times.plus(more.times),
         }
     }
@@ -113,6 +118,19 @@ impl Part for SiteTimes {
     fn spent(self) -> Spent {
         Spent {
             times: self,
+            ..Spent::none()
+        }
+    }
+}
+
+impl Part for Held {
+    ghost use Rattle.tk_compare.specs.Spent as spec;
+
+    ghost spent = { spec.held_of };
+
+    fn spent(self) -> Spent {
+        Spent {
+            held: self.charged,
             ..Spent::none()
         }
     }

@@ -1,3 +1,4 @@
 pub mod WalkLemmas
 pub mod FindingLemmas
 pub mod PlaceLemmas
+pub mod RecentLemmas

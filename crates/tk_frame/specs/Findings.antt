@@ -20,16 +20,19 @@ use Rattle.tk_screen.specs.declared.canvas.Canvas.TheVariants.{Plain, Terminal}
 use Rattle.tk_stream.specs.Tables.{TablesView, task_with}
 use Rattle.tk_stream.specs.declared.tables.task.Task.{Task}
 use Rattle.tk_frame.specs.Lines.{as_text, cell, location_text, plain, word}
-use Rattle.tk_frame.specs.Places.{PlaceRow}
+use Rattle.tk_frame.specs.Places.{PlaceRow, RecentView}
 use Rattle.tk_frame.specs.Waiting.{waiting_text}
 use Rattle.tk_odd.specs.Waiting.{waiting_of}
 use Rattle.tk_odd.specs.declared.waiting.Waiting.{Waiting}
 
--- what is told of what is odd: the findings, worst first; the places, in their order; how long the time is from the first line to the last, where one
--- came; and from when on a poll is a long one
+-- what is told of what is odd: the findings, worst first; the places, in their order; what these came to in the last while, where lines reach back so far;
+-- how many tasks waited at each of the last lines; whether the service was started again; how long the time is from the first line to the last, where one came; and from when on a poll is a long one
 pub record OddView : Type 0 where
   pub findings : List Placed
   pub places : List PlaceRow
+  pub recent : Option RecentView
+  pub waits : List ℕ
+  pub again : Bool
   pub span : Option ℕ
   pub long : ℕ
 

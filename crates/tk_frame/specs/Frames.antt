@@ -8,6 +8,7 @@ use Rattle.tk_stream.specs.Tables.{TablesView, counts_of}
 use Rattle.tk_screen.specs.Screens.{LineView, screen_text}
 use Rattle.tk_screen.specs.declared.canvas.Canvas.{Canvas}
 use Rattle.tk_screen.specs.declared.top.Ranked.{Ranked}
+use Rattle.tk_frame.specs.Courses.{course_part}
 use Rattle.tk_frame.specs.Findings.{OddView, findings_part}
 use Rattle.tk_frame.specs.Lines.{head_text, heading, op_heading, op_text, plain, resource_heading, resource_text, task_heading, task_text}
 use Rattle.tk_frame.specs.Pages.{page_of, page_text, table_rows}
@@ -47,10 +48,11 @@ ops_part rows tables = heading op_heading ∷ flat_map (op_at tables) (top_ops r
 abbrev pub items_part : ℕ → Query → TablesView → List LineView
 items_part rows query tables = if query.resources then resources_part rows tables ++ ops_part rows tables else []
 
--- the lines of a screen with this table: the first line, findings, the table, and resources and async operations
+-- the lines of a screen with this table: the first line, how many tasks waited, findings, the table, and resources and async operations
 abbrev pub frame_with : List LineView → ℕ → Canvas → Query → TablesView → OddView → List LineView
 frame_with table rows canvas query tables odd =
-    plain (head_text tables (states_of tables.tasks) (length odd.findings)) ∷ (findings_part canvas tables odd ++ (table ++ items_part rows query tables))
+    plain (head_text tables odd.again (states_of tables.tasks) (length odd.findings))
+    ∷ (course_part odd.waits ++ (findings_part canvas tables odd ++ (table ++ items_part rows query tables)))
 
 -- the table: of places, or of tasks
 abbrev pub main_part : Query → TablesView → OddView → Page → List LineView

@@ -12,7 +12,7 @@ use Rattle.tk_screen.specs.declared.top.Ranked.{Ranked}
 use Rattle.tk_frame.specs.Findings.{OddView}
 use Rattle.tk_frame.specs.Pages.{chosen_of, table_rows}
 use Rattle.tk_frame.specs.Places.{PlaceRow}
-use Rattle.tk_frame.specs.Queries.{places_count, rows_count, shown_count, top_places, top_tasks}
+use Rattle.tk_frame.specs.Queries.{places_by, places_count, rows_count, shown_count, top_places, top_tasks}
 use Rattle.tk_frame.specs.Typed.{nothing, with_byte, without_last}
 use Rattle.tk_frame.specs.declared.typed.Typed.{Typed}
 use Rattle.tk_frame.specs.declared.heard.Begun.{Begun}
@@ -61,7 +61,7 @@ is_digit key = nat_le 48 key && nat_le key 57
 abbrev pub number_act : ℕ → Action
 number_act key = if is_digit key then acts.Finding (key - 48) else acts.Nothing
 
--- what a key asks for that sorts by no column and chooses no row: Enter, a digit, q, a space, ?, r, g, v and /. Any but these asks for nothing
+-- what a key asks for that sorts by no column and chooses no row: Enter, a digit, q, a space, ?, r, g, R, v and /. Any but these asks for nothing
 abbrev pub other_act : ℕ → Action
 other_act key =
     if key == 10 then acts.Open else
@@ -71,8 +71,9 @@ other_act key =
     (if key == 63 then acts.Explain else
     (if key == 114 then acts.Resources else
     (if key == 103 then acts.Group else
+    (if key == 82 then acts.Recent else
     (if key == 118 then acts.Reverse else
-    (if key == 47 then acts.Filter else number_act key))))))))
+    (if key == 47 then acts.Filter else number_act key)))))))))
 
 abbrev pub step_act : ℕ → Action
 step_act key = option_map_or acts.Move (step_of key) (other_act key)
@@ -184,7 +185,14 @@ heard types (begun.Code n) key = heard_then n key
 
 -- the query of a screen, sorted and with resources as keys asked for
 abbrev pub query_by : Query → Asked → Query
-query_by query asked = record query { sort = asked.sort; rising = asked.rising; typed = asked.typed; resources = asked.resources; by_place = asked.by_place }
+query_by query asked = record query {
+  sort = asked.sort;
+  rising = asked.rising;
+  typed = asked.typed;
+  resources = asked.resources;
+  by_place = asked.by_place;
+  recent = asked.recent;
+}
 
 -- what is drawn on, of the size that the terminal has said it has
 abbrev pub of_size : Canvas → Option Size → Canvas
@@ -202,6 +210,7 @@ first_asked query = record {
   rising = query.rising;
   resources = query.resources;
   by_place = query.by_place;
+  recent = query.recent;
   chosen = 0;
   paused = false;
   quits = false;
@@ -230,6 +239,10 @@ first_column by_place = if by_place then HeldUp else Busy
 -- g: places are shown, or tasks again, sorted as they are first, and the first is chosen
 abbrev pub grouped : Asked → Asked
 grouped asked = record asked { by_place = not asked.by_place; sort = first_column (not asked.by_place); rising = false; chosen = 0; shown = shown.Tables }
+
+-- R: where places are shown, what they came to in the last while is, or in all again
+abbrev pub recently : Asked → Asked
+recently asked = if asked.by_place then record asked { recent = not asked.recent; shown = shown.Tables } else asked
 
 -- a space: screens stay as they are, or go on
 abbrev pub turned : Asked → Asked
@@ -268,6 +281,7 @@ acted_alone asked (acts.Sort column) = sorted column asked
 acted_alone asked acts.Reverse = reversed asked
 acted_alone asked acts.Resources = with_resources asked
 acted_alone asked acts.Group = grouped asked
+acted_alone asked acts.Recent = recently asked
 acted_alone asked acts.Pause = turned asked
 acted_alone asked acts.Explain = explained asked
 acted_alone asked acts.Quit = ended asked
@@ -296,7 +310,7 @@ chosen_task query tables asked = task_in (query_by query asked) tables (chosen_p
 -- the number of the place at a row of those that are shown
 abbrev pub place_in : Query → OddView → ℕ → Option ℕ
 place_in query odd chosen =
-    option_and_then (λ (r : Ranked). option_map (λ (p : PlaceRow). p.1.number) (slice_get odd.places r.place)) (slice_get (top_places query (chosen + 1) odd) chosen)
+    option_and_then (λ (r : Ranked). option_map (λ (p : PlaceRow). p.1.number) (slice_get (places_by query.recent odd) r.place)) (slice_get (top_places query (chosen + 1) odd) chosen)
 
 -- the chosen place
 abbrev pub chosen_site : Query → OddView → Asked → Option ℕ

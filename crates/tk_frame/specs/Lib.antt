@@ -12,6 +12,8 @@ pub mod Waiting
 pub mod Lines
 -- The lines that tell what is odd
 pub mod Findings
+-- The line that draws how many tasks waited
+pub mod Courses
 -- Which tasks stand on a screen
 pub mod Pages
 -- The lines that tell of places

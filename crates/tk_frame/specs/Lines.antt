@@ -1,5 +1,5 @@
 -- The lines that tell of tasks, and of resources and async operations.
-use Rattle.std.specs.Prelude.{◌==◌, ◌&&◌, ◌-◌, ℕ, List, [], ◌++◌, drop, length, codes, decimal, if◌then◌else◌}
+use Rattle.std.specs.Prelude.{◌==◌, ◌&&◌, ◌-◌, ℕ, Bool, List, [], ◌++◌, drop, length, codes, decimal, if◌then◌else◌}
 use Rattle.std.specs.Str.{is_utf8}
 use Rattle.tk_ids.specs.Ids.{id_text}
 use Rattle.tk_ids.specs.declared.info.Dropped.{Dropped}
@@ -66,11 +66,15 @@ lost_text d =
     if (d.tasks == 0) && ((d.resources == 0) && (d.ops == 0)) then [] else
     codes "  lost events of " ++ (decimal d.tasks ++ (codes " tasks, " ++ (decimal d.resources ++ (codes " resources, " ++ (decimal d.ops ++ codes " operations")))))
 
--- the moment, the tasks by their states, how many findings there are, and what was lost
-abbrev pub head_text : TablesView → States → ℕ → List ℕ
-head_text tables states findings =
-    codes "now " ++ (duration_text tables.now ++ (states_text (length tables.tasks) states
-    ++ ((codes "  findings " ++ decimal findings) ++ lost_text tables.dropped)))
+-- that the service was started again, where it was
+abbrev pub again_word : Bool → List ℕ
+again_word again = if again then codes ", started again" else []
+
+-- the moment, whether the service was started again, the tasks by their states, how many findings there are, and what was lost
+abbrev pub head_text : TablesView → Bool → States → ℕ → List ℕ
+head_text tables again states findings =
+    codes "now " ++ (duration_text tables.now ++ (again_word again ++ (states_text (length tables.tasks) states
+    ++ ((codes "  findings " ++ decimal findings) ++ lost_text tables.dropped))))
 
 -- ---- tasks
 

@@ -3,6 +3,7 @@ use Rattle.std.specs.Prelude.{◌==◌, ◌+◌, ◌-◌, ◌/◌, ◌%◌, min,
 use Rattle.tk_screen.specs.declared.canvas.Canvas.{Canvas}
 use Rattle.tk_screen.specs.declared.canvas.Canvas.TheVariants.{Plain, Terminal}
 use Rattle.tk_odd.specs.Findings.{Placed}
+use Rattle.tk_frame.specs.Courses.{course_height}
 use Rattle.tk_frame.specs.Findings.{OddView, any_now, most_of}
 use Rattle.tk_frame.specs.declared.pages.Page.{Page}
 use Rattle.tk_frame.specs.declared.query.Query.{Query}
@@ -17,10 +18,10 @@ calm_height list = if any_now list then 0 else 1
 abbrev pub list_height : ℕ → ℕ → ℕ
 list_height most n = if nat_lt most n then most + 1 else n
 
--- how many lines of a terminal are left for rows. Besides those above a screen and its findings, its first line is taken, the heading of tasks, the line
+-- how many lines of a terminal are left for rows. Besides those above a screen, the course of waiting, and its findings, its first line is taken, the heading of tasks, the line
 -- that counts them, and the last line, which stays free
 abbrev pub lines_left : ℕ → ℕ → ℕ → OddView → ℕ
-lines_left lines most above odd = lines - 4 - above - calm_height odd.findings - list_height most (length odd.findings)
+lines_left lines most above odd = lines - 4 - above - course_height odd.waits - calm_height odd.findings - list_height most (length odd.findings)
 
 -- how many of them a table has. Where resources are shown too there are three tables, and two more headings
 abbrev pub share : Bool → ℕ → ℕ

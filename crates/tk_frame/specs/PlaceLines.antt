@@ -12,7 +12,7 @@ use Rattle.tk_frame.specs.Findings.{OddView, numbered}
 use Rattle.tk_frame.specs.Lines.{as_text, cell, end_of, heading, plain, word}
 use Rattle.tk_frame.specs.Pages.{places_text}
 use Rattle.tk_frame.specs.Places.{PlaceRow, location_in, name_in}
-use Rattle.tk_frame.specs.Queries.{top_places}
+use Rattle.tk_frame.specs.Queries.{places_by, top_places}
 use Rattle.tk_frame.specs.declared.pages.Page.{Page}
 use Rattle.tk_frame.specs.declared.places.Figures.{Figures}
 use Rattle.tk_frame.specs.declared.query.Query.{Query}
@@ -60,14 +60,14 @@ is_chosen None n = false
 is_chosen (Some chosen) n = chosen == n
 
 -- the line of the place of a rank, in the row of this number
-abbrev pub place_row : OddView → Option ℕ → ℕ → Ranked → List LineView
-place_row odd chosen n r = option_map_or (λ (p : PlaceRow). place_line (is_chosen chosen n) p ∷ []) (slice_get odd.places r.place) []
+abbrev pub place_row : List PlaceRow → Option ℕ → ℕ → Ranked → List LineView
+place_row places chosen n r = option_map_or (λ (p : PlaceRow). place_line (is_chosen chosen n) p ∷ []) (slice_get places r.place) []
 
 -- the places of these ranks, of which one row may be chosen
-abbrev pub place_rows : OddView → Option ℕ → List Ranked → List LineView
-place_rows odd chosen top = numbered (place_row odd chosen) 0 top
+abbrev pub place_rows : List PlaceRow → Option ℕ → List Ranked → List LineView
+place_rows places chosen top = numbered (place_row places chosen) 0 top
 
 -- the places on a page, and how many there are
 abbrev pub places_part : Option ℕ → Query → OddView → Page → List LineView
 places_part chosen query odd page =
-    heading place_heading ∷ (place_rows odd chosen (drop page.from (top_places query page.to odd)) ++ (plain (places_text page) ∷ []))
+    heading place_heading ∷ (place_rows (places_by query.recent odd) chosen (drop page.from (top_places query page.to odd)) ++ (plain (places_text page) ∷ []))

@@ -2,17 +2,17 @@
 use Rattle.std.specs.Prelude.{ℕ, ◌==◌, ◌&&◌, List, [], ◌∷◌, ◌++◌, flat_map, Bool, false, is_none, if◌then◌else◌}
 use Rattle.std.specs.Str.{bytes_eq}
 use Rattle.tk_screen.specs.Screens.{LineView}
-use Rattle.tk_sites.specs.Site.{site_of}
+use Rattle.tk_odd.specs.Places.{place_of}
 use Rattle.tk_stream.specs.Tables.{TablesView}
 use Rattle.tk_stream.specs.declared.tables.task.Task.{Task}
 use Rattle.tk_frame.specs.Findings.{OddView, own_part}
 use Rattle.tk_frame.specs.Lines.{heading, plain, task_heading, task_text}
 use Rattle.tk_frame.specs.PlaceLines.{place_heading, place_line}
-use Rattle.tk_frame.specs.Places.{PlaceRow, held_key}
+use Rattle.tk_frame.specs.Places.{PlaceRow}
 
 -- a task is open, and of the place of this text
 abbrev pub is_open_at : List ℕ → Task → Bool
-is_open_at site t = is_none t.row.dropped && bytes_eq (site_of t.info) site
+is_open_at site t = is_none t.row.dropped && bytes_eq (place_of t.info) site
 
 -- the line of such a task
 abbrev pub task_if : ℕ → List ℕ → Task → List LineView
@@ -24,7 +24,7 @@ tasks_at tables site = heading task_heading ∷ flat_map (task_if tables.now sit
 
 -- what its tasks came to, the findings about it, each with what to do, and its open tasks
 abbrev pub place_part : TablesView → OddView → PlaceRow → List LineView
-place_part tables odd p = heading place_heading ∷ place_line false p ∷ (own_part tables.tasks (held_key p.0) odd.findings ++ tasks_at tables p.0)
+place_part tables odd p = heading place_heading ∷ place_line false p ∷ (own_part tables.tasks p.0 odd.findings ++ tasks_at tables p.0)
 
 -- the same, where it has this number
 abbrev pub part_if : ℕ → TablesView → OddView → PlaceRow → List LineView

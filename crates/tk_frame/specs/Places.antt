@@ -1,15 +1,17 @@
 -- The places of a stream's tasks, as rows of a table.
-use Rattle.std.specs.Prelude.{ℕ, ◌+◌, ◌==◌, nat_lt, suc, List, [], ◌∷◌, ◌++◌, drop, take, length, fold, codes, Bool, false, if◌then◌else◌, Option, Some, None}
+use Rattle.std.specs.Prelude.{ℕ, ◌+◌, ◌-◌, ◌==◌, nat_lt, suc, List, [], ◌∷◌, length, drop, take, slice_get, map, fold, Bool, false, if◌then◌else◌, Option, Some, None}
 use Rattle.std.specs.List.{insert}
 use Rattle.std.specs.Option.{option_map_or}
 use Rattle.std.specs.Str.{bytes_eq}
-use Rattle.tk_odd.specs.Places.{is_digit, without_numbers}
+use Rattle.tk_odd.specs.Places.{is_digit}
 use Rattle.tk_odd.specs.declared.held.Held.{Held}
 use Rattle.tk_series.specs.Limited.{LimitedView}
 use Rattle.tk_sites.specs.Lines.{listed}
 use Rattle.tk_sites.specs.declared.sums.Sums.{Sums}
 use Rattle.tk_frame.specs.declared.places.Figures.{Figures}
 use Rattle.tk_frame.specs.declared.places.Place.{Place}
+use Rattle.tk_frame.specs.declared.recent.Earlier.{Earlier}
+use Rattle.tk_frame.specs.declared.recent.Recent.{Recent}
 
 -- ---- the parts of a place's text, as in `spawn at src/main.rs:21:5 name worker-#`
 
@@ -35,14 +37,6 @@ behind_location site = drop (digits_end 0 0 (behind_kind site)) (behind_kind sit
 abbrev pub name_in : List ℕ → List ℕ
 name_in site = drop 6 (behind_location site)
 
--- its tasks have no name of their own
-abbrev pub is_unnamed : List ℕ → Bool
-is_unnamed site = length (behind_location site) == 0
-
--- the place as it is written among those that held up others: there a task without a name is called by where it was spawned
-abbrev pub held_key : List ℕ → List ℕ
-held_key site = if is_unnamed site then site ++ (codes " name " ++ without_numbers (location_in site)) else site
-
 -- ---- a place
 
 -- a place's text, and what its tasks came to
@@ -67,7 +61,7 @@ figures_by number sums held = record {
 }
 
 abbrev pub place_at : List (List ℕ × Held) → ℕ → List ℕ × Sums → PlaceRow
-place_at held number x = (x.0, figures_by number x.1 (held_of (held_key x.0) held))
+place_at held number x = (x.0, figures_by number x.1 (held_of x.0 held))
 
 -- places with their numbers, which begin here
 abbrev pub numbered_from : List (List ℕ × Held) → ℕ → List (List ℕ × Sums) → List PlaceRow
@@ -102,3 +96,70 @@ put_in ys x = insert ys (rank ys x.1) x
 -- all places, and what found no room among them as one more, in their order
 abbrev pub places_in : LimitedView Sums → List (List ℕ × Held) → List PlaceRow
 places_in sites held = fold put_in [] (numbered_from held 0 (listed sites))
+
+-- ---- what places came to since an earlier moment
+
+-- what all places but the first had come to, which stand behind these as one more, if they have this number
+abbrev pub rest_then : Earlier → ℕ → Option Sums
+rest_then e n = if n == length e.sites.first then e.sites.rest else None
+
+-- what the place of a number had come to, if it was there
+abbrev pub sums_then : Earlier → ℕ → Option Sums
+sums_then e n = option_map_or (λ (x : List ℕ × Sums). Some x.1) (slice_get e.sites.first n) (rest_then e n)
+
+-- what tasks came to since they had come to this. How many there are in each state, how many came, and how many left stays as it is now
+abbrev pub sums_since : Sums → Sums → Sums
+sums_since old s = record s {
+  polls = s.polls - old.polls;
+  wakes = s.wakes - old.wakes;
+  own = s.own - old.own;
+  clones = s.clones - old.clones;
+  drops = s.drops - old.drops;
+  busy = s.busy - old.busy;
+  sched = s.sched - old.sched;
+  waited = s.waited - old.waited;
+}
+
+-- the same, where they had come to something
+abbrev pub sums_by : Option Sums → Sums → Sums
+sums_by old s = option_map_or (λ was. sums_since was s) old s
+
+-- what was known then of those that held up others: 0 where nothing was
+abbrev pub charged_of : Option Held → ℕ
+charged_of held = option_map_or (λ (h : Held). h.charged) held 0
+
+abbrev pub longest_of : Option Held → ℕ
+longest_of held = option_map_or (λ (h : Held). h.longest) held 0
+
+-- the longest poll, where none was known then that was as long. Else nothing is known of it
+abbrev pub longest_since : ℕ → ℕ → ℕ
+longest_since old n = if nat_lt old n then n else 0
+
+-- figures since there were these sums, and this was known of a place that held up others
+abbrev pub figures_since : Option Sums → Option Held → Figures → Figures
+figures_since sums held f = record {
+  number = f.number;
+  sums = sums_by sums f.sums;
+  held_up = f.held_up - charged_of held;
+  longest = longest_since (longest_of held) f.longest;
+}
+
+-- a place since an earlier moment
+abbrev pub place_since : Earlier → PlaceRow → PlaceRow
+place_since e p = (p.0, figures_since (sums_then e p.1.number) (held_of p.0 e.held) p.1)
+
+-- places since an earlier moment, in the order of what they came to since
+abbrev pub places_since : Earlier → List PlaceRow → List PlaceRow
+places_since e places = fold put_in [] (map (place_since e) places)
+
+-- what places came to in the last while, and how long that is
+pub record RecentView : Type 0 where
+  pub places : List PlaceRow
+  pub time : ℕ
+
+abbrev pub recent_of : Recent → RecentView
+recent_of r = record { places = map row_of r.places.items; time = r.time }
+
+-- the same of these places, since an earlier moment to another
+abbrev pub recent_since : Earlier → ℕ → List PlaceRow → RecentView
+recent_since e now places = record { places = places_since e places; time = now - e.moment }

@@ -1,4 +1,5 @@
 -- Which items a screen shows, and in which order.
+use Rattle.std.specs.Option.{option_map, option_map_or}
 use Rattle.std.specs.Prelude.{◌==◌, ◌&&◌, ◌||◌, ◌-◌, ℕ, suc, List, [], ◌∷◌, ◌++◌, take, filter, length, Bool, true, false, is_none, Option, Some, None, if◌then◌else◌}
 use Rattle.tk_core.specs.declared.task.row.TaskRow.{TaskRow}
 use Rattle.tk_stream.specs.declared.tables.task.Task.{Task}
@@ -9,7 +10,7 @@ use Rattle.tk_screen.specs.Rankings.{ranking}
 use Rattle.tk_screen.specs.declared.top.Ranked.{Ranked}
 use Rattle.tk_core.specs.Lasting.{busy_until, sched_until}
 use Rattle.tk_frame.specs.Findings.{OddView}
-use Rattle.tk_frame.specs.Places.{PlaceRow, location_in, name_in}
+use Rattle.tk_frame.specs.Places.{PlaceRow, RecentView, location_in, name_in}
 use Rattle.tk_frame.specs.Typed.{typed_text}
 use Rattle.tk_frame.specs.declared.places.Figures.{Figures}
 use Rattle.tk_frame.specs.declared.query.Column.{Column}
@@ -73,9 +74,21 @@ names_place text site = stands_in text (location_in site) || stands_in text (nam
 abbrev pub is_place_shown : Query → PlaceRow → Bool
 is_place_shown query p = names_place query.filter.now p.0 && names_place (typed_text query.typed) p.0
 
+-- what places came to in the last while, or where lines don't reach back so far, in all
+abbrev pub recent_places : OddView → List PlaceRow
+recent_places odd = option_map_or (λ (r : RecentView). r.places) odd.recent odd.places
+
+-- how long that while is
+abbrev pub recent_time : OddView → Option ℕ
+recent_time odd = option_map (λ (r : RecentView). r.time) odd.recent
+
+-- the places as they are shown: with what they came to in the last while, or in all
+abbrev pub places_by : Bool → OddView → List PlaceRow
+places_by recent odd = if recent then recent_places odd else odd.places
+
 -- how many places are shown, on one screen or on several
 abbrev pub places_count : Query → OddView → ℕ
-places_count query odd = length (filter (is_place_shown query) odd.places)
+places_count query odd = length (filter (is_place_shown query) (places_by query.recent odd))
 
 -- how many rows there are of what is shown: of places, or of tasks
 abbrev pub rows_count : Query → TablesView → OddView → ℕ
@@ -122,4 +135,4 @@ top_ops rows tables = top_of op_key rows tables.ops
 
 -- the first places, where those of equal numbers stay in their order
 abbrev pub top_places : Query → ℕ → OddView → List Ranked
-top_places query rows odd = top_of (place_key query) rows odd.places
+top_places query rows odd = top_of (place_key query) rows (places_by query.recent odd)

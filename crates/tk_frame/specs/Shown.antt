@@ -1,5 +1,5 @@
 -- The lines of a screen that keys ask for.
-use Rattle.std.specs.Prelude.{◌+◌, ◌-◌, ◌==◌, ℕ, List, [], ◌∷◌, ◌++◌, take, drop, slice_get, flat_map, codes, Bool, true, false, Some, if◌then◌else◌}
+use Rattle.std.specs.Prelude.{◌+◌, ◌-◌, ◌==◌, ◌&&◌, ℕ, List, [], ◌∷◌, ◌++◌, take, drop, slice_get, flat_map, codes, Bool, true, false, Option, Some, None, if◌then◌else◌}
 use Rattle.std.specs.Option.{option_map_or}
 use Rattle.tk_stream.specs.declared.tables.task.Task.{Task}
 use Rattle.tk_stream.specs.Tables.{TablesView}
@@ -15,7 +15,7 @@ use Rattle.tk_frame.specs.Lines.{as_text, heading, plain, task_heading, task_tex
 use Rattle.tk_frame.specs.Pages.{chosen_of, page_of, page_text, table_rows}
 use Rattle.tk_frame.specs.PlaceLines.{places_part}
 use Rattle.tk_frame.specs.PlaceView.{place_view}
-use Rattle.tk_frame.specs.Queries.{rows_count, top_tasks}
+use Rattle.tk_frame.specs.Queries.{recent_time, rows_count, top_tasks}
 use Rattle.tk_frame.specs.declared.keys.Asked.{Asked}
 use Rattle.tk_frame.specs.declared.keys.Shown.{Shown}
 use Rattle.tk_frame.specs.declared.keys.Shown.TheVariants as shown
@@ -57,6 +57,17 @@ filter_word types t = if types then named_by t (codes "_") else (if is_empty t t
 abbrev pub by_word : Bool → List ℕ
 by_word by_place = if by_place then codes "by place, " else []
 
+-- of which time it is told what places came to, where not of all: how long it is, or that lines don't reach back so far
+abbrev pub while_word : Option ℕ → List ℕ
+while_word None = codes "the whole time so far, "
+while_word (Some time) = codes "last " ++ (duration_text time ++ codes ", ")
+
+abbrev pub tells_recent : Asked → Bool
+tells_recent asked = asked.by_place && asked.recent
+
+abbrev pub recent_word : Bool → Option ℕ → List ℕ
+recent_word recent time = if recent then while_word time else []
+
 -- how far what is shown lies behind what came, where it does
 abbrev pub lag_text : ℕ → List ℕ
 lag_text behind = codes ", " ++ (duration_text behind ++ codes " behind")
@@ -71,10 +82,10 @@ pause_text behind = codes "  paused" ++ behind_word behind
 abbrev pub paused_word : Bool → ℕ → List ℕ
 paused_word paused behind = if paused then pause_text behind else []
 
--- the line that stands above a screen: whether places are shown, how they or tasks are sorted, whether it is paused and how far it then lies behind, and
+-- the line that stands above a screen: whether places are shown, and what they came to in the last while, how they or tasks are sorted, whether it is paused and how far it then lies behind, and
 -- which key shows the others
-abbrev pub asked_text : Asked → ℕ → List ℕ
-asked_text asked behind = by_word asked.by_place ++ (codes "sorted by " ++ (column_word (sorted_by asked.by_place asked.sort) ++ (order_word asked.rising ++ (filter_word asked.types asked.typed ++ (paused_word asked.paused behind ++ codes "  ? shows the keys")))))
+abbrev pub asked_text : Asked → Option ℕ → ℕ → List ℕ
+asked_text asked time behind = by_word asked.by_place ++ (recent_word (tells_recent asked) time ++ (codes "sorted by " ++ (column_word (sorted_by asked.by_place asked.sort) ++ (order_word asked.rising ++ (filter_word asked.types asked.typed ++ (paused_word asked.paused behind ++ codes "  ? shows the keys"))))))
 
 -- what each key does
 abbrev pub keys_part : List LineView
@@ -93,6 +104,7 @@ keys_part = heading (codes "KEY    WHAT IT DOES")
     ∷ plain (codes "1..9   shows the task of the finding that has this number")
     ∷ plain (codes "/      shows only tasks that a text names, by their name or their file; Enter ends it")
     ∷ plain (codes "g      shows places, or tasks again")
+    ∷ plain (codes "R      shows what places came to in the last 5 seconds, or in all again")
     ∷ plain (codes "r      shows resources and async operations, or not any more")
     ∷ plain (codes "space  pauses, or goes on")
     ∷ plain (codes "?      shows this, or not any more")
@@ -138,7 +150,7 @@ shown_part (shown.Place n) asked canvas query tables odd = place_view n tables o
 
 -- the lines of a screen that keys ask for, of tables that lie so far behind what came
 abbrev pub lines_of : Asked → ℕ → Canvas → Query → TablesView → OddView → List LineView
-lines_of asked behind canvas query tables odd = plain (asked_text asked behind) ∷ shown_part asked.shown asked canvas query tables odd
+lines_of asked behind canvas query tables odd = plain (asked_text asked (recent_time odd) behind) ∷ shown_part asked.shown asked canvas query tables odd
 
 -- the screen of such tables that keys ask for, as it is written: of the size that the terminal has
 abbrev pub asked_screen : Canvas → Query → OddView → Asked → ℕ → TablesView → List ℕ

@@ -50,6 +50,8 @@ pub enum Action {
     Finding(usize),
     /// Places in the place of tasks, or tasks again.
     Group,
+    /// What places came to in the last while, or in all again.
+    Recent,
     /// Resources and async operations, or no more of them.
     Resources,
     /// A pause, or its end.
@@ -134,6 +136,7 @@ fn other_act(key: u8) -> Action
         b'?' => Action::Explain,
         b'r' => Action::Resources,
         b'g' => Action::Group,
+        b'R' => Action::Recent,
         b'v' => Action::Reverse,
         b'/' => Action::Filter,
         _ => number_act(key),

@@ -2,6 +2,7 @@
 ghost use Rattle.std.specs.Prelude.{◌≡◌, ◌+◌, ◌-◌, min, IfOk, slice_get};
 ghost use Rattle.std.specs.Option.{option_map};
 ghost use Rattle.tk_frame.specs.Keys as spec;
+ghost use Rattle.tk_frame.specs.Queries.{places_by};
 
 use crate::heard::{Action, Begun, Step, hear};
 use crate::odd::Odd;
@@ -40,6 +41,8 @@ pub struct Asked {
     pub resources: bool,
     /// Whether places are shown in the place of tasks.
     pub by_place: bool,
+    /// Whether these are shown with what they came to in the last while.
+    pub recent: bool,
     /// Which of the tasks or places that are shown is chosen, from 0 on. Where fewer are left it is the last.
     pub chosen: usize,
     /// Whether screens stay as they are while lines come.
@@ -67,6 +70,7 @@ impl Asked {
             rising: query.rising,
             resources: query.resources,
             by_place: query.by_place,
+            recent: query.recent,
             chosen: 0,
             paused: false,
             quits: false,
@@ -115,6 +119,7 @@ pub(crate) fn query_by<'a>(query: &Query<'a>, asked: &Asked) -> Query<'a>
         typed: asked.typed,
         resources: asked.resources,
         by_place: asked.by_place,
+        recent: asked.recent,
     }
 }
 
@@ -170,6 +175,19 @@ fn grouped(asked: Asked) -> Asked
         sort: first_column(by_place),
         rising: false,
         chosen: 0,
+        shown: Shown::Tables,
+        ..asked
+    }
+}
+
+fn recently(asked: Asked) -> Asked
+    ensures { result ≡ spec.recently asked }
+{
+    if !asked.by_place {
+        return asked;
+    }
+    Asked {
+        recent: !asked.recent,
         shown: Shown::Tables,
         ..asked
     }
@@ -252,6 +270,7 @@ fn acted_alone(asked: Asked, action: Action) -> Asked
         Action::Reverse => reversed(asked),
         Action::Resources => with_resources(asked),
         Action::Group => grouped(asked),
+        Action::Recent => recently(asked),
         Action::Pause => turned(asked),
         Action::Explain => explained(asked),
         Action::Quit => ended(asked),
@@ -346,10 +365,10 @@ fn chosen_task(
     task_in(alloc, tables, &query, chosen)
 }
 
-fn number_at(odd: &Odd, place: usize) -> Option<usize>
-    ensures { result ≡ option_map (λ p. p.1.number) (slice_get odd.now.places place) }
+fn number_at(odd: &Odd, recent: bool, place: usize) -> Option<usize>
+    ensures { result ≡ option_map (λ p. p.1.number) (slice_get (places_by recent odd.now) place) }
 {
-    match odd.place_at(place) {
+    match odd.place_at(recent, place) {
         Some((_, figures)) => Some(figures.number),
         None => None,
     }
@@ -369,7 +388,7 @@ fn place_in(
     };
     let top = top_places(alloc, odd, query, rows)?;
     match top.items().get(chosen) {
-        Some(ranked) => Ok(number_at(odd, ranked.place)),
+        Some(ranked) => Ok(number_at(odd, query.recent, ranked.place)),
         None => Ok(None),
     }
 }
@@ -515,7 +534,8 @@ fn with_begun(begun: Begun, asked: Asked) -> Asked
 
 /// What is asked for once a byte came from the terminal, while a screen of these tables and findings is drawn on this canvas.
 ///
-/// - `b`, `s`, `p`, `w`, `o` and `h` sort tasks or places by a column, and `v` sorts them the other way round. `g` shows places, or tasks again.
+/// - `b`, `s`, `p`, `w`, `o` and `h` sort tasks or places by a column, and `v` sorts them the other way round. `g` shows places, or tasks again. If places are shown, `R` shows
+///   what they came to in the last while, or in all again.
 /// - `j` and `k`, or arrows, choose a row; `n` does as `j`. `d` and `u`, or Page Down and Page Up, go a page further; `<` and `>`, or Home and End, go to the
 ///   first and to the last row.
 /// - Enter shows all of the chosen task or place, or no more; a digit shows the task of the finding that has this number.

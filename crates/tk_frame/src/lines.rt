@@ -5,6 +5,7 @@ ghost use Rattle.tk_frame.specs.Frames as spec;
 ghost use Rattle.tk_frame.specs.Lines as texts;
 ghost use Rattle.tk_frame.specs.Pages.{page_text};
 
+use crate::course::push_course;
 use crate::items::{op_heading, op_line, resource_heading, resource_line};
 use crate::odd::Odd;
 use crate::odd_lines::push_findings;
@@ -33,12 +34,13 @@ pub(crate) fn push_head(
     lines: &mut Vec<Line>,
     alloc: Global,
     tables: &Tables,
+    again: bool,
     states: States,
     findings: usize,
 ) -> Result<(), AllocError>
-    ensures { OnOk result (Puts lines.old.items lines.new.items (texts.plain (texts.head_text tables.now states findings) ∷ [])) }
+    ensures { OnOk result (Puts lines.old.items lines.new.items (texts.plain (texts.head_text tables.now again states findings) ∷ [])) }
 {
-    lines.push(head_line(alloc, tables, states, findings)?)?;
+    lines.push(head_line(alloc, tables, again, states, findings)?)?;
     Ok(())
 }
 
@@ -227,15 +229,17 @@ fn push_all(
     ensures { OnOk result (Puts lines.old.items lines.new.items (spec.frame_by rows canvas query.now tables.now odd.now)) }
 {
     let page = page_of(rows, 0, rows_count(tables, odd, query));
-    push_head(lines, alloc, tables, states_in(tables), odd.count())?;
+    let again = odd.again();
+    push_head(lines, alloc, tables, again, states_in(tables), odd.count())?;
+    push_course(lines, alloc, odd.waits())?;
     push_findings(lines, alloc, canvas, tables, odd)?;
     push_main(lines, alloc, tables, odd, query, page)?;
     push_items(lines, alloc, tables, query, rows)?;
     Ok(())
 }
 
-/// The lines of a screen of tables of which this is odd: the first line, with the moment, the tasks by their states, how many findings
-/// there are and what was lost; that no finding holds now, where it is so; the worst findings, as many as a third of the screen's rows,
+/// The lines of a screen of tables of which this is odd: the first line, with the moment, whether the service was started again, the tasks by their states, how many findings
+/// there are and what was lost; how many tasks waited at each of the last lines, where there were several; that no finding holds now, where it is so; the worst findings, as many as a third of the screen's rows,
 /// and how many more there are; the first places, or open tasks, as many as have room, and how many there are; and where they were asked for, open
 /// resources and async operations.
 /// `docs/FORMATS.md` has their words.

@@ -3,6 +3,7 @@ ghost use Rattle.std.specs.Prelude.{◌≡◌, ◌<◌, ◌+◌, min, OnOk, stri
 ghost use Rattle.tk_screen.specs.Texts.{Puts};
 ghost use Rattle.tk_frame.specs.Pages as spec;
 
+use crate::course::course_height;
 use crate::odd::Odd;
 use crate::odd_lines::{any_now, most_of};
 use crate::query::Query;
@@ -36,11 +37,13 @@ fn list_height(most: usize, findings: usize) -> usize
 fn lines_left(lines: usize, most: usize, above: usize, odd: &Odd) -> usize
     ensures { result ≡ spec.lines_left lines most above odd.now }
 {
+    let course = course_height(odd.waits());
     let calm = calm_height(odd);
     let list = list_height(most, odd.count());
     lines
         .saturating_sub(4)
         .saturating_sub(above)
+        .saturating_sub(course)
         .saturating_sub(calm)
         .saturating_sub(list)
 }

@@ -4,6 +4,7 @@ ghost use Rattle.tk_screen.specs.Texts.{Puts, right};
 ghost use Rattle.tk_frame.specs.Lines as texts;
 ghost use Rattle.tk_frame.specs.Pages.{places_text};
 ghost use Rattle.tk_frame.specs.PlaceLines as spec;
+ghost use Rattle.tk_frame.specs.Queries.{places_by};
 
 use crate::cells::{end_of, put_bytes, put_cell, put_text, put_time, put_value};
 use crate::lines::{push_heading, ranks_on};
@@ -153,13 +154,14 @@ fn push_place(
     lines: &mut Vec<Line>,
     alloc: Global,
     odd: &Odd,
+    recent: bool,
     chosen: Option<usize>,
     row: usize,
     ranked: &Ranked,
 ) -> Result<(), AllocError>
-    ensures { OnOk result (Puts lines.old.items lines.new.items (spec.place_row odd.now chosen row ranked.now)) }
+    ensures { OnOk result (Puts lines.old.items lines.new.items (spec.place_row (places_by recent odd.now) chosen row ranked.now)) }
 {
-    if let Some((site, figures)) = odd.place_at(ranked.place) {
+    if let Some((site, figures)) = odd.place_at(recent, ranked.place) {
         lines.push(place_line(alloc, is_chosen(chosen, row), site, &figures)?)?;
     }
     Ok(())
@@ -169,13 +171,14 @@ fn push_rows(
     lines: &mut Vec<Line>,
     alloc: Global,
     odd: &Odd,
+    recent: bool,
     chosen: Option<usize>,
     top: &[Ranked],
 ) -> Result<(), AllocError>
-    ensures { OnOk result (Puts lines.old.items lines.new.items (spec.place_rows odd.now chosen top.now)) }
+    ensures { OnOk result (Puts lines.old.items lines.new.items (spec.place_rows (places_by recent odd.now) chosen top.now)) }
 {
     for (i, ranked) in top.iter().enumerate() {
-        push_place(lines, alloc, odd, chosen, i, ranked)?;
+        push_place(lines, alloc, odd, recent, chosen, i, ranked)?;
     }
     Ok(())
 }
@@ -202,7 +205,15 @@ pub(crate) fn push_places(
 {
     let top = top_places(alloc, odd, query, page.to)?;
     push_heading(lines, alloc, place_heading())?;
-    push_rows(lines, alloc, odd, chosen, ranks_on(top.items(), page))?;
+    let recent = query.recent;
+    push_rows(
+        lines,
+        alloc,
+        odd,
+        recent,
+        chosen,
+        ranks_on(top.items(), page),
+    )?;
     push_count(lines, alloc, page)?;
     Ok(())
 }

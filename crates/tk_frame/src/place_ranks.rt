@@ -12,10 +12,10 @@ use tk_screen::Top;
 use tk_stream::Tables;
 
 fn offer_place(top: &mut Top, odd: &Odd, query: &Query<'_>, i: usize)
-    ensures items { top.new.items ≡ option_map_or (λ p. inner.kept_with (spec.place_key query.now p) i top.old.room top.old.items) (slice_get odd.now.places i) top.old.items }
+    ensures items { top.new.items ≡ option_map_or (λ p. inner.kept_with (spec.place_key query.now p) i top.old.room top.old.items) (slice_get (spec.places_by query.now.recent odd.now) i) top.old.items }
     ensures room { top.new.room ≡ top.old.room }
 {
-    if let Some((site, figures)) = odd.place_at(i) {
+    if let Some((site, figures)) = odd.place_at(query.recent, i) {
         offer(top, place_key(query, site, &figures), i);
     }
 }
@@ -30,7 +30,7 @@ pub(crate) fn top_places(
     ensures { IfOk result (λ top. top.items ≡ spec.top_places query.now rows odd.now) }
 {
     let mut top = Top::new(alloc, rows)?;
-    for i in 0..odd.place_count() {
+    for i in 0..odd.place_count(query.recent) {
         offer_place(&mut top, odd, query, i);
     }
     Ok(top)
@@ -39,9 +39,9 @@ pub(crate) fn top_places(
 // Counts the place at an index, if it is shown.
 fn count_place(count: usize, odd: &Odd, query: &Query<'_>, i: usize) -> usize
     requires { count + 1 < 2 ^ 64 }
-    ensures { result ≡ option_map_or (inner.counted_with (spec.is_place_shown query.now) count) (slice_get odd.now.places i) count }
+    ensures { result ≡ option_map_or (inner.counted_with (spec.is_place_shown query.now) count) (slice_get (spec.places_by query.now.recent odd.now) i) count }
 {
-    match odd.place_at(i) {
+    match odd.place_at(query.recent, i) {
         Some((site, figures)) => if is_place_shown(query, site, &figures) {
             count + 1
         } else {
@@ -56,7 +56,7 @@ pub(crate) fn places_count(odd: &Odd, query: &Query<'_>) -> usize
     ensures { result ≡ spec.places_count query.now odd.now }
 {
     let mut count = 0;
-    for i in 0..odd.place_count() {
+    for i in 0..odd.place_count(query.recent) {
         count = count_place(count, odd, query, i);
     }
     count

@@ -2,9 +2,7 @@
 ghost use Rattle.std.specs.Prelude.{◌≡◌, ◌∷◌, [], false, flat_map, slice_get, IfOk, OnOk};
 ghost use Rattle.std.specs.Option.{option_map_or};
 ghost use Rattle.tk_screen.specs.Texts.{Puts};
-ghost use Rattle.tk_frame.specs.Findings.{own_part};
 ghost use Rattle.tk_frame.specs.PlaceLines.{place_heading as heading_text, place_line as line_of};
-ghost use Rattle.tk_frame.specs.Places.{held_key as key_of};
 ghost use Rattle.tk_frame.specs.Lines as texts;
 ghost use Rattle.tk_frame.specs.PlaceView as spec;
 
@@ -13,11 +11,10 @@ use crate::odd::Odd;
 use crate::odd_lines::push_own_each;
 use crate::place_lines::{place_heading, place_line};
 use crate::places::Figures;
-use crate::site_parts::held_key;
 use crate::tasks::{task_heading, task_line};
 use std::alloc::{AllocError, Global};
+use tk_odd::place_of;
 use tk_screen::Line;
-use tk_sites::site_of;
 use tk_stream::{Tables, Task};
 
 // ---- its open tasks
@@ -28,7 +25,7 @@ fn is_open_at(alloc: Global, site: &[u8], task: &Task) -> Result<bool, AllocErro
     if task.row.dropped.is_some() {
         return Ok(false);
     }
-    let own = site_of(alloc, &task.info)?;
+    let own = place_of(alloc, &task.info)?;
     Ok(own.as_slice() == site)
 }
 
@@ -115,20 +112,6 @@ fn push_row(
     Ok(())
 }
 
-// The findings about it.
-fn push_findings_at(
-    lines: &mut Vec<Line>,
-    alloc: Global,
-    tables: &Tables,
-    odd: &Odd,
-    site: &[u8],
-) -> Result<(), AllocError>
-    ensures { OnOk result (Puts lines.old.items lines.new.items (own_part tables.now.tasks (key_of site.now) odd.now.findings)) }
-{
-    let key = held_key(alloc, site)?;
-    push_own_each(lines, alloc, tables, key.as_slice(), odd.findings())
-}
-
 fn push_part(
     lines: &mut Vec<Line>,
     alloc: Global,
@@ -140,7 +123,7 @@ fn push_part(
     ensures { OnOk result (Puts lines.old.items lines.new.items (spec.place_part tables.now odd.now (site.now, figures.now))) }
 {
     push_row(lines, alloc, site, figures)?;
-    push_findings_at(lines, alloc, tables, odd, site)?;
+    push_own_each(lines, alloc, tables, site, odd.findings())?;
     push_tasks_at(lines, alloc, tables, site)?;
     Ok(())
 }
@@ -156,7 +139,7 @@ fn push_part_if(
     ensures { OnOk result (Puts lines.old.items lines.new.items
         (option_map_or (spec.part_if number tables.now odd.now) (slice_get odd.now.places i) [])) }
 {
-    let Some((site, figures)) = odd.place_at(i) else {
+    let Some((site, figures)) = odd.place_at(false, i) else {
         return Ok(());
     };
     if figures.number == number {
@@ -176,7 +159,7 @@ pub(crate) fn push_place_view(
 ) -> Result<(), AllocError>
     ensures { OnOk result (Puts lines.old.items lines.new.items (spec.place_view number tables.now odd.now)) }
 {
-    for i in 0..odd.place_count() {
+    for i in 0..odd.place_count(false) {
         push_part_if(lines, alloc, tables, odd, number, i)?;
     }
     Ok(())

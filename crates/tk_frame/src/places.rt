@@ -5,7 +5,6 @@ ghost use Rattle.std.specs.Str.{bytes_eq};
 ghost use Rattle.tk_sites.specs.Lines.{more_site as more_text};
 ghost use Rattle.tk_frame.specs.Places as spec;
 
-use crate::site_parts::held_key;
 use std::alloc::{AllocError, Global};
 use tk_odd::Held;
 use tk_series::{Limited, Series};
@@ -55,8 +54,8 @@ fn held_with(found: Option<Held>, held: &Series<Held>, key: &[u8], i: usize) -> 
     }
 }
 
-// What is known of a place among those that held up others.
-fn held_of(held: &Series<Held>, key: &[u8]) -> Option<Held>
+/// What is known of a place among those that held up others.
+pub(crate) fn held_of(held: &Series<Held>, key: &[u8]) -> Option<Held>
     ensures { result ≡ spec.held_of key.now held.now }
 {
     let mut found = None;
@@ -94,8 +93,7 @@ fn place_at(
 ) -> Result<Place, AllocError>
     ensures { IfOk result (λ p. spec.row_of p ≡ spec.place_at held.now number (site.now, sums)) }
 {
-    let key = held_key(alloc, site)?;
-    let figures = figures_by(number, sums, held_of(held, key.as_slice()));
+    let figures = figures_by(number, sums, held_of(held, site));
     let site = Vec::from_slice(alloc, site)?;
     Ok(Place { site, figures })
 }
@@ -155,8 +153,8 @@ fn rank(list: &[Place], figures: &Figures) -> usize
     list.len()
 }
 
-// Puts a place in its place, after those that are equal to it.
-fn put_in(list: &mut Vec<Place>, place: Place) -> Result<(), AllocError>
+/// Puts a place in its place, after those that are equal to it.
+pub(crate) fn put_in(list: &mut Vec<Place>, place: Place) -> Result<(), AllocError>
     ensures { OnOk result (map spec.row_of list.new.items ≡ spec.put_in (map spec.row_of list.old.items) (spec.row_of place)) }
 {
     let at = rank(list, &place.figures);

@@ -43,6 +43,8 @@ pub struct Query<'a> {
     pub resources: bool,
     /// Whether places are shown in the place of tasks. Both texts then stand in where the tasks of a place were spawned, or in their name.
     pub by_place: bool,
+    /// Whether these places are shown with what they came to in the last while, and not in all.
+    pub recent: bool,
 }
 
 // The number of a task in a column, at a moment.

@@ -6,6 +6,7 @@ ghost use Rattle.tk_frame.specs.Lines as texts;
 ghost use Rattle.tk_frame.specs.Shown as spec;
 
 use crate::cells::put_text;
+use crate::course::push_course;
 use crate::details::{push_details, push_plain};
 use crate::findings::put_place;
 use crate::keys::{Asked, Shown, query_by};
@@ -60,6 +61,34 @@ fn by_word(by_place: bool) -> &'static str
     ensures { result.now ≡ spec.by_word by_place }
 {
     if by_place { "by place, " } else { "" }
+}
+
+fn put_while(out: &mut String, time: Option<u64>) -> Result<(), AllocError>
+    ensures { OnOk result (Puts (string_bytes out.old) (string_bytes out.new) (spec.while_word time)) }
+{
+    let Some(time) = time else {
+        return put_text(out, "the whole time so far, ");
+    };
+    put_text(out, "last ")?;
+    put_duration(out, time)?;
+    put_text(out, ", ")?;
+    Ok(())
+}
+
+fn tells_recent(asked: &Asked) -> bool
+    ensures { result ≡ spec.tells_recent asked.now }
+{
+    asked.by_place && asked.recent
+}
+
+// Puts of which time it is told what places came to, where not of all.
+fn put_recent(out: &mut String, recent: bool, time: Option<u64>) -> Result<(), AllocError>
+    ensures { OnOk result (Puts (string_bytes out.old) (string_bytes out.new) (spec.recent_word recent time)) }
+{
+    if recent {
+        return put_while(out, time);
+    }
+    Ok(())
 }
 
 fn put_lag(out: &mut String, behind: u64) -> Result<(), AllocError>
@@ -121,10 +150,16 @@ fn put_filter(out: &mut String, types: bool, typed: &Typed) -> Result<(), AllocE
     put_text_of(out, typed, "")
 }
 
-fn put_asked(out: &mut String, asked: &Asked, behind: u64) -> Result<(), AllocError>
-    ensures { OnOk result (Puts (string_bytes out.old) (string_bytes out.new) (spec.asked_text asked.now behind)) }
+fn put_asked(
+    out: &mut String,
+    asked: &Asked,
+    time: Option<u64>,
+    behind: u64,
+) -> Result<(), AllocError>
+    ensures { OnOk result (Puts (string_bytes out.old) (string_bytes out.new) (spec.asked_text asked.now time behind)) }
 {
     put_text(out, by_word(asked.by_place))?;
+    put_recent(out, tells_recent(asked), time)?;
     put_text(out, "sorted by ")?;
     put_text(out, column_word(sorted_by(asked.by_place, asked.sort)))?;
     put_text(out, order_word(asked.rising))?;
@@ -138,12 +173,13 @@ fn push_asked(
     lines: &mut Vec<Line>,
     alloc: Global,
     asked: &Asked,
+    time: Option<u64>,
     behind: u64,
 ) -> Result<(), AllocError>
-    ensures { OnOk result (Puts lines.old.items lines.new.items (texts.plain (spec.asked_text asked.now behind) ∷ [])) }
+    ensures { OnOk result (Puts lines.old.items lines.new.items (texts.plain (spec.asked_text asked.now time behind) ∷ [])) }
 {
     let mut text = String::new(alloc);
-    put_asked(&mut text, asked, behind)?;
+    put_asked(&mut text, asked, time, behind)?;
     lines.push(Line::new(Style::Plain, text))?;
     Ok(())
 }
@@ -226,6 +262,11 @@ fn push_others(lines: &mut Vec<Line>, alloc: Global) -> Result<(), AllocError>
         "/      shows only tasks that a text names, by their name or their file; Enter ends it",
     )?;
     push_plain(lines, alloc, "g      shows places, or tasks again")?;
+    push_plain(
+        lines,
+        alloc,
+        "R      shows what places came to in the last 5 seconds, or in all again",
+    )?;
     push_plain(
         lines,
         alloc,
@@ -383,7 +424,9 @@ fn push_tables(
     ensures { OnOk result (Puts lines.old.items lines.new.items (spec.choice_by rows chosen canvas query.now tables.now odd.now)) }
 {
     let page = page_of(rows, chosen, rows_count(tables, odd, query));
-    push_head(lines, alloc, tables, states_in(tables), odd.count())?;
+    let again = odd.again();
+    push_head(lines, alloc, tables, again, states_in(tables), odd.count())?;
+    push_course(lines, alloc, odd.waits())?;
     push_findings(lines, alloc, canvas, tables, odd)?;
     push_main(lines, alloc, tables, odd, query, page, chosen)?;
     push_items(lines, alloc, tables, query, rows)?;
@@ -415,7 +458,7 @@ fn push_shown(
     }
 }
 
-/// The lines of a screen that keys ask for, of tables of which this is odd: how tasks are sorted, whether it is paused and by how many nanoseconds these
+/// The lines of a screen that keys ask for, of tables of which this is odd: how tasks or places are sorted, of which time it is told what places came to where not of all, whether it is paused and by how many nanoseconds these
 /// tables then lie behind what came, and then the tables as `frame` shows them, with the page of the chosen task; or what each key does; or all that is told of a task, or of a place. `docs/FORMATS.md` has
 /// their words.
 ///
@@ -432,7 +475,7 @@ pub fn asked_frame(
     ensures { IfOk result (λ lines. lines.items ≡ spec.lines_of asked.now behind canvas query.now tables.now odd.now) }
 {
     let mut lines = Vec::new(alloc);
-    push_asked(&mut lines, alloc, asked, behind)?;
+    push_asked(&mut lines, alloc, asked, odd.recent_time(), behind)?;
     push_shown(&mut lines, alloc, canvas, tables, odd, query, asked)?;
     Ok(lines)
 }

@@ -1,10 +1,7 @@
 //! The parts of a place's text.
-ghost use Rattle.std.specs.Prelude.{◌≡◌, ◌≤◌, length, drop, IfOk};
+ghost use Rattle.std.specs.Prelude.{◌≡◌, ◌≤◌, length, drop};
 ghost use Rattle.tk_odd.specs.Places as odd;
 ghost use Rattle.tk_frame.specs.Places as spec;
-
-use std::alloc::{AllocError, Global};
-use tk_odd::without_numbers;
 
 fn is_digit(byte: u8) -> bool
     ensures { result ≡ odd.is_digit byte }
@@ -71,23 +68,4 @@ pub(crate) fn name_in(site: &[u8]) -> &[u8]
     ensures { result.now ≡ spec.name_in site.now }
 {
     without_first(behind_location(site), 6)
-}
-
-fn is_unnamed(site: &[u8]) -> bool
-    ensures { result ≡ spec.is_unnamed site.now }
-{
-    behind_location(site).len() == 0
-}
-
-/// The place as it is written among those that held up others.
-pub(crate) fn held_key(alloc: Global, site: &[u8]) -> Result<Vec<u8>, AllocError>
-    ensures { IfOk result (λ key. key.items ≡ spec.held_key site.now) }
-{
-    let mut key = Vec::from_slice(alloc, site)?;
-    if is_unnamed(site) {
-        let name = without_numbers(alloc, location_in(site))?;
-        key.extend_from_slice(b" name ")?;
-        key.extend_from_slice(name.as_slice())?;
-    }
-    Ok(key)
 }

@@ -53,33 +53,42 @@ fn put_count(out: &mut String, findings: usize) -> Result<(), AllocError>
     write!(out, "  findings {findings}")
 }
 
+fn again_word(again: bool) -> &'static str
+    ensures { result.now ≡ spec.again_word again }
+{
+    if again { ", started again" } else { "" }
+}
+
 fn put_head(
     out: &mut String,
     tables: &Tables,
+    again: bool,
     states: States,
     findings: usize,
 ) -> Result<(), AllocError>
-    ensures { OnOk result (Puts (string_bytes out.old) (string_bytes out.new) (spec.head_text tables.now states findings)) }
+    ensures { OnOk result (Puts (string_bytes out.old) (string_bytes out.new) (spec.head_text tables.now again states findings)) }
 {
     put_text(out, "now ")?;
     put_duration(out, tables.now())?;
+    put_text(out, again_word(again))?;
     put_states(out, tables.task_count(), states)?;
     put_count(out, findings)?;
     put_lost(out, tables.dropped())?;
     Ok(())
 }
 
-/// The first line of a screen: the moment, the tasks by their states, how many findings there are, and what was lost.
+/// The first line of a screen: the moment, whether the service was started again, the tasks by their states, how many findings there are, and what was lost.
 pub(crate) fn head_line(
     alloc: Global,
     tables: &Tables,
+    again: bool,
     states: States,
     findings: usize,
 ) -> Result<Line, AllocError>
-    ensures { IfOk result (λ line. line ≡ spec.plain (spec.head_text tables.now states findings)) }
+    ensures { IfOk result (λ line. line ≡ spec.plain (spec.head_text tables.now again states findings)) }
 {
     let mut text = String::new(alloc);
-    put_head(&mut text, tables, states, findings)?;
+    put_head(&mut text, tables, again, states, findings)?;
     Ok(Line::new(Style::Plain, text))
 }
 

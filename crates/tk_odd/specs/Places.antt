@@ -1,5 +1,6 @@
 -- Which tasks are of one place.
 use Rattle.std.specs.Prelude.{ℕ, List, [], ◌∷◌, ◌++◌, nat_le, Bool, true, false, ◌&&◌, codes, decimal, if◌then◌else◌}
+use Rattle.std.specs.Str.{bytes_eq}
 use Rattle.tk_ids.specs.declared.info.TaskInfo.{TaskInfo}
 use Rattle.tk_ids.specs.declared.location.Location.{Location}
 use Rattle.tk_stream.specs.Spelling.{kind_text}
@@ -22,6 +23,15 @@ without_numbers text = digits_read false text
 abbrev pub location_text : Location → List ℕ
 location_text at = at.file ++ (58 ∷ decimal at.line ++ (58 ∷ decimal at.column))
 
--- the place of a task, as outlets write it: its kind, where it was spawned, and its name but for numbers. Tasks that one line spawns are of one place
+-- a task has no name of its own: one that was given none is called by where it was spawned
+abbrev pub is_unnamed : TaskInfo → Bool
+is_unnamed info = bytes_eq info.name (location_text info.location)
+
+-- the name of a task but for numbers, after a word. If it has no name of its own, nothing
+abbrev pub name_words : TaskInfo → List ℕ
+name_words info = if is_unnamed info then [] else codes " name " ++ without_numbers info.name
+
+-- the place of a task, as all outlets write it: its kind, where it was spawned, and its name but for numbers if it has one of its own. Tasks that one
+-- line spawns are of one place
 abbrev pub place_of : TaskInfo → List ℕ
-place_of info = kind_text info.kind ++ (codes " at " ++ (location_text info.location ++ (codes " name " ++ without_numbers info.name)))
+place_of info = kind_text info.kind ++ (codes " at " ++ (location_text info.location ++ name_words info))

@@ -1,9 +1,9 @@
 //! Which tasks are of one place.
-ghost use Rattle.std.specs.Prelude.{◌≡◌, ◌++◌, IfOk, OnOk};
+ghost use Rattle.std.specs.Prelude.{◌≡◌, ◌++◌, IfOk, OnOk, string_bytes};
 ghost use Rattle.tk_odd.specs.Places as spec;
 
 use std::alloc::{AllocError, Global};
-use tk_ids::TaskInfo;
+use tk_ids::{Location, TaskInfo};
 use tk_report::kind_word;
 
 fn is_digit(byte: u8) -> bool
@@ -38,15 +38,37 @@ pub fn without_numbers(alloc: Global, text: &[u8]) -> Result<Vec<u8>, AllocError
     Ok(short)
 }
 
+fn location_text(alloc: Global, location: &Location) -> Result<String, AllocError>
+    ensures { IfOk result (λ text. string_bytes text ≡ spec.location_text location.now) }
+{
+    let Location { file, line, column } = location;
+    format!(in alloc; "{file}:{line}:{column}")
+}
+
+// Puts the name of a task but for numbers, unless that is where it was spawned.
+fn put_name(out: &mut Vec<u8>, alloc: Global, info: &TaskInfo) -> Result<(), AllocError>
+    ensures { OnOk result (out.new.items ≡ out.old.items ++ spec.name_words info.now) }
+{
+    let name = info.name.as_bytes();
+    let location = location_text(alloc, &info.location)?;
+    if name != location.as_bytes() {
+        out.extend_from_slice(b" name ")?;
+        put_without_numbers(out, name)?;
+    }
+    Ok(())
+}
+
 /// The place of a task: its kind, where it was spawned, and its name with each run of digits read as `#`, as in
-/// `spawn at src/main.rs:21:5 name worker-#`.
+/// `spawn at src/main.rs:21:5 name worker-#`. A task that is called by where it was spawned has no name of its own: then no name stands there.
+///
+/// `AllocError`: there was no memory.
 pub fn place_of(alloc: Global, info: &TaskInfo) -> Result<Vec<u8>, AllocError>
     ensures { IfOk result (λ place. place.items ≡ spec.place_of info.now) }
 {
     let kind = kind_word(info.kind);
     let at = &info.location;
-    let head = format!(in alloc; "{kind} at {}:{}:{} name ", at.file, at.line, at.column)?;
+    let head = format!(in alloc; "{kind} at {}:{}:{}", at.file, at.line, at.column)?;
     let mut place = Vec::from_slice(alloc, head.as_bytes())?;
-    put_without_numbers(&mut place, info.name.as_bytes())?;
+    put_name(&mut place, alloc, info)?;
     Ok(place)
 }

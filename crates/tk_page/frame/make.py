@@ -1,9 +1,10 @@
 #!/usr/bin/env python3
 """Writes src/frame.rt from page.css and page.js: the page's head and its end, with the sums that let this style and this script run and
-no other. With --check it writes nothing, and its status is 1 where src/frame.rt is not what it would write."""
+no other, and the program's version. With --check it writes nothing, and its status is 1 where src/frame.rt is not what it would write."""
 import base64
 import hashlib
 import os
+import re
 import sys
 
 HERE = os.path.dirname(os.path.abspath(__file__))
@@ -26,11 +27,16 @@ def literal(text):
     return '"' + text.replace('"', '\\"') + '"'
 
 
+def version():
+    with open(os.path.join(HERE, "..", "..", "tk_report", "src", "version.rt"), encoding="utf-8") as file:
+        return re.search('pub const VERSION: &str = "(.*)";', file.read())[1]
+
+
 css, js = read("page.css"), read("page.js")
 head = f"""<!DOCTYPE html>
 <html lang="en"><head><meta charset="utf-8"><meta http-equiv="Content-Security-Policy" content="default-src 'none'; style-src {sum_of(css)}; script-src {sum_of(js)}"><meta name="viewport" content="width=device-width, initial-scale=1"><meta name="color-scheme" content="light dark"><title>taskscope</title><style>{css}</style></head><body>
 """
-tail = f"\n<script>{js}</script></body></html>\n"
+tail = f"\n<footer>Made by taskscope {version()}</footer>\n<script>{js}</script></body></html>\n"
 made = f'''//! The frame of a page: its head with the style, and its end with the script. `frame/make.py` writes this file.
 
 /// What stands before the page's text.

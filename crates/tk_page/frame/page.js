@@ -2,8 +2,20 @@
 document.body.className = 'live';
 const title = document.querySelector('h1').textContent;
 if (title !== 'taskscope') document.title = title + ': taskscope';
-const table = document.getElementById('table'), sites = document.getElementById('sites'), all = [...table.tBodies[0].rows];
-const filter = document.getElementById('filter'), only = document.getElementById('only'), shown = document.getElementById('shown');
+const table = document.getElementById('table') || document.getElementById('changes'), sites = document.getElementById('sites'), all = [...table.tBodies[0].rows];
+const input = (id) => document.getElementById(id) || document.createElement('input');
+for (const row of all) {
+  const link = document.createElement('a');
+  link.className = 'own-link';
+  link.href = '#' + row.id;
+  link.textContent = '#';
+  link.title = 'the link to this row';
+  link.tabIndex = -1;
+  if (row.id) row.cells[0].append(link);
+}
+const filter = input('filter'), only = input('only'), shown = input('shown');
+const count = document.querySelector('.facts b'), many = table.id === 'table' && count ? Number(count.textContent.replace(/[^0-9]/g, '')) : 0;
+const few = all.length < many ? all.length + ' of ' + count.textContent + ' tasks have rows' : '';
 const show = () => {
   const word = filter.value.toLowerCase();
   let n = 0;
@@ -12,8 +24,9 @@ const show = () => {
     row.hidden = !name.includes(word) || (only.checked && row.dataset.odd !== '1');
     if (!row.hidden) n++;
   }
-  shown.textContent = n === all.length ? '' : n + ' of ' + all.length + ' tasks';
+  shown.textContent = n === all.length ? few : n + ' of ' + all.length + ' tasks' + (few && ' that have rows');
 };
+let span = null;
 const keep = () => {
   const asked = new URLSearchParams();
   if (filter.value) asked.set('name', filter.value);
@@ -22,6 +35,7 @@ const keep = () => {
     const head = sortable && sortable.tHead.querySelector('[aria-sort]');
     if (head) asked.set(word, (head.ariaSort === 'descending' ? '-' : '') + head.cellIndex);
   }
+  if (span) asked.set('span', span.join('-'));
   const words = asked.toString();
   history.replaceState(null, '', (words ? '?' + words : location.pathname) + location.hash);
 };
@@ -37,18 +51,24 @@ addEventListener('hashchange', () => {
   }
 });
 const of = (cell) => cell.dataset.v === undefined ? cell.textContent : BigInt(cell.dataset.v);
+const order = (table, rows) => {
+  const head = table.tHead.querySelector('[aria-sort]');
+  if (!head) return;
+  const i = head.cellIndex, way = head.getAttribute('aria-sort') === 'descending' ? -1 : 1;
+  rows.sort((a, b) => {
+    const x = of(a.cells[i]), y = of(b.cells[i]);
+    return (x < y ? -1 : x > y ? 1 : 0) * way;
+  });
+  table.tBodies[0].append(...rows);
+};
 const sorts = (table, rows) => {
   for (const button of table.tHead.querySelectorAll('button')) {
     const head = button.parentNode;
     button.addEventListener('click', () => {
-      const i = head.cellIndex, down = head.getAttribute('aria-sort') !== 'descending';
+      const down = head.getAttribute('aria-sort') !== 'descending';
       for (const other of table.tHead.querySelectorAll('[aria-sort]')) other.removeAttribute('aria-sort');
       head.setAttribute('aria-sort', down ? 'descending' : 'ascending');
-      rows.sort((a, b) => {
-        const x = of(a.cells[i]), y = of(b.cells[i]);
-        return (x < y ? -1 : x > y ? 1 : 0) * (down ? -1 : 1);
-      });
-      table.tBodies[0].append(...rows);
+      order(table, rows);
       keep();
     });
   }
@@ -93,9 +113,11 @@ const moment = (x, wide) => {
   return time(x * unit);
 };
 const share = (n) => tenths(n, 100) + ' %';
+const mean = (n) => grouped(Math.floor(n / 1000)) + '.' + Math.floor(n % 1000 / 100);
+const whom = [...table.querySelectorAll('.who')].map((who) => who.textContent);
 const told = (strip, step) => {
   const name = strip.closest('tr').querySelector('.name');
-  if (!name) return grouped(Math.floor(step[1] / 1000)) + '.' + Math.floor(step[1] % 1000 / 100) + ' tasks waited';
+  if (!name) return mean(step[1]) + ' tasks waited' + whom.map((who, i) => step[i + 2] ? ', ' + mean(step[i + 2]) + ' for ' + who : '').join('');
   const own = step[4] ? ', ' + grouped(step[4]) + ' of its own' : '';
   return name.textContent + ': busy ' + share(step[1]) + ', waiting ' + share(step[2]) + ', ' + grouped(step[3]) + (step[3] === 1 ? ' wake' : ' wakes') + own;
 };
@@ -123,7 +145,64 @@ const tell = (strip, i) => {
   tip.style.left = scrollX + Math.max(8, Math.min(box.left + box.width * step[0] / end, most)) + 'px';
   tip.style.top = scrollY + (box.bottom + tip.offsetHeight + 8 > innerHeight ? box.top - tip.offsetHeight - 4 : box.bottom + 4) + 'px';
 };
-let reached = 0;
+const chosen = document.createElement('span'), band = mark.cloneNode(), whole = new Map();
+chosen.setAttribute('role', 'status');
+chosen.id = 'span';
+band.setAttribute('class', 'at span');
+shown.after(chosen);
+const sums = (strip, from, to) => {
+  const every = steps(strip), sum = [0, 0, 0, 0];
+  every.forEach((step, i) => {
+    const end = i + 1 < every.length ? every[i + 1][0] : wide(strip), part = Math.min(end, to) - Math.max(step[0], from);
+    if (part > 0) sum.forEach((_, n) => { sum[n] += step[n + 1] * part / (n < 2 ? to - from : end - step[0]); });
+  });
+  return sum;
+};
+const put = (cell, v, text, share) => {
+  cell.dataset.v = Math.round(v);
+  cell.lastChild.textContent = text;
+  const box = cell.querySelector('svg.bar rect');
+  if (box) box.setAttribute('width', Math.min(100, Math.round(share / 10)));
+};
+const narrow = (row) => {
+  const strip = row.querySelector('svg[data-steps]');
+  if (!strip) return;
+  const [busy, wait, wakes, own] = sums(strip, ...span), time = (span[1] - span[0]) * unit;
+  put(row.cells[3], busy * time / 1000, ' ' + share(busy), busy);
+  put(row.cells[4], wait * time / 1000, ' ' + share(wait), wait);
+  put(row.cells[7], wakes, grouped(Math.round(wakes)));
+  put(row.cells[8], own, grouped(Math.round(own)));
+};
+const choose = (from, to) => {
+  const total = table.querySelector('svg.total');
+  for (const [cell, was] of whole) {
+    cell.replaceChildren(...[...was.childNodes].map((node) => node.cloneNode(true)));
+    cell.dataset.v = was.dataset.v;
+  }
+  band.remove();
+  chosen.replaceChildren();
+  span = total && from >= 0 && from < to && to <= wide(total) ? [from, to] : null;
+  table.classList.toggle('narrow', span !== null);
+  if (span) {
+    if (!whole.size) for (const row of all) for (const i of [3, 4, 7, 8]) whole.set(row.cells[i], row.cells[i].cloneNode(true));
+    all.forEach(narrow);
+    band.setAttribute('x', from);
+    band.setAttribute('width', to - from);
+    total.append(band);
+    const lift = document.createElement('button');
+    lift.type = 'button';
+    lift.textContent = 'Show the whole time';
+    lift.addEventListener('click', () => choose(0, 0));
+    chosen.append('Busy, waiting, wakes and own: from ' + moment(from, wide(total)) + ' to ' + moment(to, wide(total)) + ' ', lift);
+  }
+  order(table, all);
+  keep();
+};
+const reaches = (strip, from, to) => {
+  const every = steps(strip), [a, b] = from < to ? [from, to] : [to, from];
+  if (every[a]) choose(every[a][0], b + 1 < every.length ? every[b + 1][0] : wide(strip));
+};
+let reached = 0, anchor = null;
 const reach = (strip) => {
   for (const other of table.querySelectorAll('svg[tabindex]')) other.setAttribute('tabindex', '-1');
   strip.setAttribute('tabindex', '0');
@@ -131,10 +210,18 @@ const reach = (strip) => {
 };
 for (const strip of table.querySelectorAll('svg[data-steps]')) {
   strip.setAttribute('tabindex', '-1');
-  const point = (event) => {
+  const under = (event) => {
     const box = strip.getBoundingClientRect();
-    tell(strip, at(strip, (event.clientX - box.left) / box.width * wide(strip)));
+    return at(strip, (event.clientX - box.left) / box.width * wide(strip));
   };
+  const point = (event) => tell(strip, under(event));
+  let pressed = null;
+  strip.addEventListener('pointerdown', (event) => { pressed = event.pointerType === 'touch' ? null : under(event); });
+  strip.addEventListener('pointerup', (event) => {
+    const i = under(event);
+    if (pressed !== null && i !== pressed && i >= 0) reaches(strip, Math.max(0, pressed), i);
+    pressed = null;
+  });
   strip.addEventListener('pointermove', point);
   strip.addEventListener('pointerdown', point);
   strip.addEventListener('pointerleave', hide);
@@ -144,14 +231,27 @@ for (const strip of table.querySelectorAll('svg[data-steps]')) {
     const all = steps(strip), i = Math.max(0, at(strip, reached)), rows = strips(), row = rows.indexOf(strip);
     const go = { ArrowLeft: i - 1, ArrowRight: i + 1, Home: 0, End: all.length - 1 }[event.key];
     const next = { ArrowUp: rows[row - 1], ArrowDown: rows[row + 1] }[event.key];
-    if (event.key === 'Escape') hide();
+    if (event.key === 'Escape') {
+      hide();
+      if (span) choose(0, 0);
+    }
     if (next) reach(next);
     if (go !== undefined) {
       const to = Math.max(0, Math.min(go, all.length - 1));
+      anchor = event.shiftKey ? anchor ?? reached : null;
       reached = all[to][0];
       tell(strip, to);
+      if (anchor !== null) reaches(strip, Math.max(0, at(strip, anchor)), to);
     }
     if (next || go !== undefined) event.preventDefault();
   });
 }
 if (strips()[0]) strips()[0].setAttribute('tabindex', '0');
+const last = document.querySelector('.facts b[data-v]'), ended = last ? Number(last.dataset.v) / 1e9 : 0;
+if (ended > 1e9 && ended < 4e9) {
+  const old = Math.floor(Date.now() / 1000 - ended), [word, size] = [['days', 86400], ['h', 3600], ['min', 60]].find((one) => old >= 2 * one[1]) || ['s', 1];
+  const day = new Date(ended * 1000).toISOString().slice(0, 19).replace('T', ' ');
+  last.after(', until ' + day + ' UTC' + (old < 0 ? '' : ', ' + Math.floor(old / size) + ' ' + word + ' ago'));
+}
+const [from, to] = (asked.get('span') || '').split('-').map(Number);
+if (to) choose(from, to);

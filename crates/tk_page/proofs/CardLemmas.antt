@@ -11,7 +11,7 @@ use Rattle.tk_page.specs.declared.sample.Sample.{Sample}
 use Rattle.tk_page.specs.Banner.{doing_of, doing_so}
 use Rattle.tk_page.specs.Cards.{mean_wait, place_of, whom}
 use Rattle.tk_page.specs.Figures.{each_of}
-use Rattle.tk_page.specs.Sites.{site_text}
+use Rattle.tk_page.specs.Places.{site_text}
 
 -- the place of a task that has left is text
 pub placed : (place : List ℕ) → nat_eq (length place) 0 ≡ false → IsUtf8 place

@@ -6,6 +6,9 @@ pub mod LoopLemmas
 pub mod RankLemmas
 pub mod DrawLemmas
 pub mod Leading
+pub mod BlameLemmas
 pub mod CardLemmas
+pub mod ChangedLemmas
+pub mod ChangedPlaces
 pub mod PlaceLemmas
 pub mod WithinLemmas

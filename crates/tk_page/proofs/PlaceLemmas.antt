@@ -1,5 +1,5 @@
 -- Each piece of a page has its place, and the page ends between tags.
-use Rattle.std.proofs.Common.{◌≡◌, ℕ, ◌+◌, ◌-◌, List, [], ◌∷◌, length, take, filter, slice_get, Bool, true, false, cond, nat_eq, nat_lt, nat_le, ◌&&◌, ◌||◌, not, Option, Some, None, refl}
+use Rattle.std.proofs.Common.{◌≡◌, ℕ, ◌+◌, ◌*◌, ◌-◌, List, [], ◌∷◌, length, take, filter, slice_get, Bool, true, false, cond, nat_eq, nat_lt, nat_le, ◌&&◌, ◌||◌, not, Option, Some, None, refl}
 use Rattle.std.specs.Prelude.{codes}
 use Rattle.std.specs.List.{list_any, zip}
 use Rattle.std.specs.Option.{option_map_or}
@@ -17,6 +17,7 @@ use Rattle.tk_stream.specs.declared.tables.task.Task.{Task}
 use Rattle.tk_stream.specs.Tables.{TablesView, counts_of, resource_with, task_with}
 use Rattle.tk_paper.specs.Parts.{Bit, after_all, text, span}
 use Rattle.tk_paper.specs.declared.marks.Place.TheVariants as places
+use Rattle.tk_page.specs.declared.blamed.Blamed.{Blamed}
 use Rattle.tk_page.specs.declared.figures.Scale.{Scale}
 use Rattle.tk_odd.specs.declared.finding.Finding.{Finding}
 use Rattle.tk_odd.specs.declared.finding.Found.{Found}
@@ -26,6 +27,9 @@ use Rattle.tk_odd.specs.declared.words.Shape.TheVariants.{Held, Alone, Stretch, 
 use Rattle.tk_odd.specs.Findings.{is_urgent, victim_of}
 use Rattle.tk_odd.specs.Words.{after_of, before_of, shape_of}
 use Rattle.tk_page.specs.declared.oddities.Signs.{Signs}
+use Rattle.tk_page.specs.declared.picture.Split.{Split}
+use Rattle.tk_page.specs.declared.picture.Whom.{Whom}
+use Rattle.tk_page.specs.declared.picture.Whom.TheVariants as whom
 use Rattle.tk_page.specs.declared.ranks.Rank.{Rank}
 use Rattle.tk_page.specs.declared.sample.Sample.{Sample}
 use Rattle.tk_page.specs.declared.sample.Step.{Step}
@@ -37,6 +41,7 @@ use Rattle.tk_odd.specs.declared.waiting.Waiting.{Waiting}
 use Rattle.tk_page.specs.Badges as badges
 use Rattle.tk_page.specs.Banner as banners
 use Rattle.tk_page.specs.Cards as cards
+use Rattle.tk_page.specs.Charges.{Places}
 use Rattle.tk_page.specs.Courses.{Courses}
 use Rattle.tk_page.specs.Drawn.{came, sections}
 use Rattle.tk_page.specs.Figures.{each_of, watched, wide_of}
@@ -44,11 +49,17 @@ use Rattle.tk_page.specs.Heads as heads
 use Rattle.tk_page.specs.Idle as idle
 use Rattle.tk_page.specs.Items as items
 use Rattle.tk_page.specs.Odd.{carded, has_sign, is_lost, is_odd_at_all, row_kinds, says}
-use Rattle.tk_page.specs.Places.{id, more}
+use Rattle.tk_page.specs.Picture as pictures
+use Rattle.tk_page.specs.Places.{id, more, site_text}
+use Rattle.tk_page.specs.PollTimes as polls
 use Rattle.tk_page.specs.Rows as rows
 use Rattle.tk_page.specs.Sites as sites
+use Rattle.tk_page.specs.declared.sites.Known.{Known}
 use Rattle.tk_series.specs.Limited.{LimitedView}
+use Rattle.tk_report.specs.Timed.{percentile_of}
 use Rattle.tk_sites.specs.declared.sums.Sums.{Sums}
+use Rattle.tk_sites.specs.declared.times.Histogram.{Histogram}
+use Rattle.tk_sites.specs.declared.times.SiteTimes.{SiteTimes}
 use Rattle.tk_core.specs.Lasting.{busy_until, sched_until}
 use Rattle.tk_page.specs.Samples.{sample_of}
 use Rattle.tk_page.specs.Strips as strips
@@ -58,18 +69,18 @@ use Rattle.tk_page.specs.Waiting.{waits_from_last_wake}
 use Rattle.tk_page.proofs.Leading.{Leads, bits_to, cut_to, each_to, none_to, then_to}
 
 -- parts that begin and end between tags
-abbrev Between : List Bit → Type 0
+abbrev pub Between : List Bit → Type 0
 Between bits = Leads (Some places.Text) bits (Some places.Text)
 
 -- parts that begin and end in a value
 abbrev Within : List Bit → Type 0
 Within bits = Leads (Some places.Value) bits (Some places.Value)
 
-none_between : Between []
+pub none_between : Between []
 none_between = none_to (Some places.Text)
 
 -- the same of either of two
-either : (b : Bool) {x y : List Bit} → Between x → Between y → Between (cond b x y)
+pub either : (b : Bool) {x y : List Bit} → Between x → Between y → Between (cond b x y)
 either true h k = h
 either false h k = k
 
@@ -229,25 +240,67 @@ readings_to : (scale : Scale) (steps : List Step) → Leads (Some places.Tag) (s
 unfolding after_all
 readings_to scale steps = cut_to 1 refl (then_to (each_to (strips.reading scale) (reading_to scale) steps) (record { is = refl }))
 
-sum_reading_to : (scale : Scale) (step : Step) → Within (strips.sum_reading scale step)
-unfolding after_all
-sum_reading_to scale step = record { is = refl }
-
-sum_readings_to : (scale : Scale) (steps : List Step) → Leads (Some places.Tag) (strips.sum_readings scale steps) (Some places.Tag)
-unfolding after_all
-sum_readings_to scale steps = cut_to 1 refl (then_to (each_to (strips.sum_reading scale) (sum_reading_to scale) steps) (record { is = refl }))
-
 strip_to : (scale : Scale) (t : Task) (last : Sample) (steps : List Step) (lost : Bool) → Between (strips.strip_of scale t last steps lost)
 unfolding after_all
 strip_to scale t last steps lost =
     then_to (bits_to (strips.drawing (codes "strip") (wide_of scale) 22) refl) (then_to (readings_to scale steps) (then_to (bits_to (strips.words scale t last) refl)
     (then_to (bits_to (strips.alive scale t.row) refl) (then_to (lost_if_to scale t.row lost) (then_to (paths_to scale (strips.most_wakes steps) steps) (record { is = refl }))))))
 
-sum_to : (scale : Scale) (height : Height) (steps : List Step) → Between (strips.sum_drawing scale height steps)
+-- ---- who waited for whom
+
+split_reading_to : (scale : Scale) (s : Split) → Within (pictures.split_reading scale s)
 unfolding after_all
-sum_to scale height steps =
-    then_to (bits_to (strips.drawing (codes "total") (wide_of scale) 30) refl) (then_to (sum_readings_to scale steps) (then_to (bits_to (strips.sum_words height) refl)
-    (then_to (each_to (λ step. strips.box (strips.sum_box scale height.top step)) (λ step. box_to (strips.sum_box scale height.top step)) steps) (record { is = refl }))))
+split_reading_to scale s = record { is = refl }
+
+split_readings_to : (scale : Scale) (splits : List Split) → Leads (Some places.Tag) (pictures.split_readings scale splits) (Some places.Tag)
+unfolding after_all
+split_readings_to scale splits = cut_to 1 refl (then_to (each_to (pictures.split_reading scale) (split_reading_to scale) splits) (record { is = refl }))
+
+site_text_within : (site : List ℕ) → Within (site_text site)
+unfolding after_all
+site_text_within site = either_within (is_utf8 site) (record { is = refl }) (none_to (Some places.Value))
+
+held_words_to : (scale : Scale) (b : Blamed) → Within (pictures.held_words scale b)
+unfolding after_all
+held_words_to scale b = then_to (bits_to (pictures.held_span scale b.held) refl) (site_text_within b.place.items)
+
+picture_words_to : (scale : Scale) (height : Height) (blamed : List Blamed) → Leads (Some places.Tag) (pictures.picture_words scale height blamed) (Some places.Text)
+unfolding after_all
+picture_words_to scale height blamed = cut_to 5 refl (then_to (each_to (pictures.held_words scale) (held_words_to scale) blamed) (record { is = refl }))
+
+part_path_to : (scale : Scale) (top : ℕ) (kind : Whom) (splits : List Split) → Between (pictures.part_path scale top kind splits)
+unfolding after_all
+part_path_to scale top kind splits =
+    cut_to 3 refl (then_to (each_to (λ s. strips.box (pictures.part_box scale top kind s)) (λ s. box_to (pictures.part_box scale top kind s)) splits) (record { is = refl }))
+
+picture_to : (scale : Scale) (height : Height) (blamed : List Blamed) (splits : List Split) → Between (pictures.picture scale height blamed splits)
+unfolding after_all
+picture_to scale height blamed splits =
+    then_to (bits_to (strips.drawing (codes "total") (wide_of scale) 60) refl) (then_to (split_readings_to scale splits) (then_to (picture_words_to scale height blamed)
+    (then_to (part_path_to scale height.top whom.First splits) (then_to (part_path_to scale height.top whom.Second splits)
+    (then_to (part_path_to scale height.top whom.Rest splits) (record { is = refl }))))))
+
+pub site_text_to : (site : List ℕ) → Between (site_text site)
+unfolding after_all
+site_text_to site = either (is_utf8 site) (record { is = refl }) none_between
+
+whom_key_to : (colour : List ℕ) (b : Blamed) → Between (pictures.whom_key colour b)
+unfolding after_all
+whom_key_to colour b = cut_to 5 refl (then_to (site_text_to b.place.items) (record { is = refl }))
+
+whom_key_at_to : (colour : List ℕ) (blamed : List Blamed) (i : ℕ) → Between (pictures.whom_key_at colour blamed i)
+whom_key_at_to colour blamed i = by (slice_get blamed i)
+  where
+    by : (o : Option Blamed) → Between (option_map_or (pictures.whom_key colour) o [])
+    by None = none_between
+    by (Some b) = whom_key_to colour b
+
+whom_keys_to : (blamed : List Blamed) → Between (pictures.whom_keys blamed)
+unfolding after_all
+whom_keys_to blamed = cut_to 4 refl (then_to (whom_key_at_to (codes "k-first") blamed 0) (then_to (whom_key_at_to (codes "k-second") blamed 1) (record { is = refl })))
+
+whom_legend_to : (blamed : List Blamed) → Between (pictures.whom_legend blamed)
+whom_legend_to blamed = either (nat_eq (length blamed) 0) none_between (whom_keys_to blamed)
 
 -- ---- what idle tasks wait for
 
@@ -324,16 +377,16 @@ height_cell_to : (height : Height) → Between (rows.height_cell height)
 unfolding after_all
 height_cell_to height = cut_to 12 refl (then_to (top_to height) (record { is = refl }))
 
-sum_row_to : (scale : Scale) (height : Height) (sums : List Step) → Between (rows.sum_row scale height sums)
+sum_row_to : (scale : Scale) (height : Height) (blamed : List Blamed) (splits : List Split) → Between (rows.sum_row scale height blamed splits)
 unfolding after_all
-sum_row_to scale height sums =
-    then_to (height_cell_to height) (then_to (sum_to scale height sums)
-    (then_to (bits_to (strips.axis (watched scale)) refl) (record { is = refl })))
+sum_row_to scale height blamed splits =
+    then_to (height_cell_to height) (then_to (whom_legend_to blamed) (then_to (picture_to scale height blamed splits)
+    (then_to (bits_to (strips.axis (watched scale)) refl) (record { is = refl }))))
 
-table_head_to : (scale : Scale) (height : Height) (sums : List Step) → Between (rows.table_head scale height sums)
+table_head_to : (scale : Scale) (height : Height) (blamed : List Blamed) (splits : List Split) → Between (rows.table_head scale height blamed splits)
 unfolding after_all
-table_head_to scale height sums =
-    then_to (bits_to (rows.caption (watched scale)) refl) (then_to (sum_row_to scale height sums) (then_to (bits_to rows.first_columns refl)
+table_head_to scale height blamed splits =
+    then_to (bits_to (rows.caption (watched scale)) refl) (then_to (sum_row_to scale height blamed splits) (then_to (bits_to rows.first_columns refl)
     (then_to (bits_to rows.last_columns refl) (record { is = refl }))))
 
 mean_cell_to : (busy polls : ℕ) → Between (rows.mean_cell busy polls)
@@ -363,23 +416,20 @@ row_at_to scale signs courses tables rank = by (slice_get tables.tasks rank.plac
     by None = none_between
     by (Some t) = row_to scale signs tables (courses.kept t.info.id) t
 
-table_to : (scale : Scale) (signs : Signs) (courses : Courses) (tables : TablesView) (ranks : List Rank) (height : Height) → Between (rows.table scale signs courses tables ranks height)
+table_to : (scale : Scale) (signs : Signs) (courses : Courses) (blamed : List Blamed) (tables : TablesView) (ranks : List Rank) (height : Height)
+    → Between (rows.table scale signs courses blamed tables ranks height)
 unfolding after_all
-table_to scale signs courses tables ranks height =
-    then_to (table_head_to scale height (strips.steps_of scale.start courses.sums courses.last)) (then_to (each_to (rows.row_at scale signs courses tables) (row_at_to scale signs courses tables) (take 200 ranks)) (record { is = refl }))
+table_to scale signs courses blamed tables ranks height =
+    then_to (table_head_to scale height blamed (pictures.splits_of blamed (strips.steps_of scale.start courses.sums courses.last))) (then_to (each_to (rows.row_at scale signs courses tables) (row_at_to scale signs courses tables) (take 200 ranks)) (record { is = refl }))
 
-tasks_to : (scale : Scale) (signs : Signs) (courses : Courses) (tables : TablesView) (ranks : List Rank) (height : Height)
-    → Between (rows.tasks_section scale signs courses tables ranks height)
+tasks_to : (scale : Scale) (signs : Signs) (courses : Courses) (blamed : List Blamed) (tables : TablesView) (ranks : List Rank) (height : Height)
+    → Between (rows.tasks_section scale signs courses blamed tables ranks height)
 unfolding after_all
-tasks_to scale signs courses tables ranks height =
-    then_to (bits_to rows.tasks_head refl) (then_to (table_to scale signs courses tables ranks height)
-    (then_to (more_to (length tables.tasks) 200 (codes " tasks more, which ran and waited less")) (record { is = refl })))
+tasks_to scale signs courses blamed tables ranks height =
+    then_to (bits_to rows.tasks_head refl) (then_to (table_to scale signs courses blamed tables ranks height)
+    (then_to (more_to (length tables.tasks) 200 (codes " tasks more, which have no row")) (record { is = refl })))
 
 -- ---- places
-
-site_text_to : (site : List ℕ) → Between (sites.site_text site)
-unfolding after_all
-site_text_to site = either (is_utf8 site) (record { is = refl }) none_between
 
 site_name_to : (place : ℕ) (site : List ℕ) → Between (sites.site_name place site)
 unfolding after_all
@@ -389,41 +439,79 @@ site_work_to : (sums : Sums) → Between (sites.site_work sums)
 unfolding after_all
 site_work_to sums =
     then_to (bits_to (rows.number_cell (sites.open_of sums)) refl) (then_to (bits_to (rows.number_cell sums.scheduled) refl) (then_to (bits_to (rows.number_cell sums.tasks) refl)
-    (then_to (bits_to (sites.time_cell sums.busy) refl) (then_to (bits_to (rows.number_cell sums.polls) refl) (mean_cell_to sums.busy sums.polls)))))
+    (then_to (bits_to (polls.time_cell sums.busy) refl) (then_to (bits_to (rows.number_cell sums.polls) refl) (mean_cell_to sums.busy sums.polls)))))
 
-site_waits_to : (sums : Sums) → Between (sites.site_waits sums)
+held_cell_to : (held : Option ℕ) → Between (sites.held_cell held)
 unfolding after_all
-site_waits_to sums =
-    then_to (bits_to (sites.time_cell sums.sched) refl) (then_to (mean_cell_to sums.sched sums.tasks) (bits_to (rows.number_cell sums.own) refl))
+held_cell_to None = record { is = refl }
+held_cell_to (Some time) = record { is = refl }
 
-site_row_to : (place : ℕ) (x : List ℕ × Sums) → Between (sites.site_row place x)
+percentile_cell_to : (percent : ℕ) (h : Histogram) → Between (polls.percentile_cell percent h)
 unfolding after_all
-site_row_to place (site, sums) =
-    then_to (site_name_to place site) (then_to (site_work_to sums) (then_to (site_waits_to sums) (record { is = refl })))
-
-site_row_at_to : (xs : List (List ℕ × Sums)) (rank : Rank) → Between (sites.site_row_at xs rank)
-site_row_at_to xs rank = by (slice_get xs rank.place)
+percentile_cell_to percent h = by (percentile_of percent h.counts)
   where
-    by : (o : Option (List ℕ × Sums)) → Between (option_map_or (sites.site_row rank.place) o [])
+    by : (o : Option ℕ) → Between (option_map_or (λ bucket. polls.time_cell (polls.high_of h.longest bucket)) o polls.dash_cell)
+    by None = record { is = refl }
+    by (Some bucket) = record { is = refl }
+
+bars_from_to : (most bucket : ℕ) (counts : List ℕ) → Within (polls.bars_from most bucket counts)
+bars_from_to most bucket [] = none_to (Some places.Value)
+bars_from_to most bucket (count ∷ counts) =
+    then_to (box_to (record { x = bucket * 6; wide = 5; base = 16; high = polls.bar_high most count })) (bars_from_to most (bucket + 1) counts)
+
+bars_to : (counts : List ℕ) → Between (polls.bars counts)
+unfolding after_all
+bars_to counts =
+    then_to (bits_to (strips.drawing (codes "hist") 84 16) refl) (cut_to 5 refl (then_to (bars_from_to (polls.most_of counts) 0 counts) (record { is = refl })))
+
+longest_cell_to : (h : Histogram) → Between (polls.longest_cell h)
+unfolding after_all
+longest_cell_to h = cut_to 4 refl (then_to (bars_to h.counts) (record { is = refl }))
+
+polls_cells_to : (o : Option Histogram) → Between (polls.polls_cells o)
+unfolding after_all
+polls_cells_to None = record { is = refl }
+polls_cells_to (Some h) = then_to (percentile_cell_to 50 h) (then_to (percentile_cell_to 99 h) (longest_cell_to h))
+
+waits_cell_to : (o : Option Histogram) → Between (polls.waits_cell o)
+unfolding after_all
+waits_cell_to None = record { is = refl }
+waits_cell_to (Some h) = percentile_cell_to 99 h
+
+site_waits_to : (known : Known) (sums : Sums) → Between (sites.site_waits known sums)
+unfolding after_all
+site_waits_to known sums =
+    then_to (bits_to (polls.time_cell sums.sched) refl) (then_to (mean_cell_to sums.sched sums.tasks)
+    (then_to (waits_cell_to known.waits) (then_to (held_cell_to known.held) (bits_to (rows.number_cell sums.own) refl))))
+
+site_row_to : (known : Known) (place : ℕ) (x : List ℕ × Sums) → Between (sites.site_row known place x)
+unfolding after_all
+site_row_to known place (site, sums) =
+    then_to (site_name_to place site) (then_to (site_work_to sums) (then_to (polls_cells_to known.polls) (then_to (site_waits_to known sums) (record { is = refl }))))
+
+site_row_at_to : (times : Option (LimitedView SiteTimes)) (held : Places) (xs : List (List ℕ × Sums)) (rank : Rank) → Between (sites.site_row_at times held xs rank)
+site_row_at_to times held xs rank = by (slice_get xs rank.place)
+  where
+    by : (o : Option (List ℕ × Sums)) → Between (option_map_or (sites.full_row times held rank.place) o [])
     by None = none_between
-    by (Some x) = site_row_to rank.place x
+    by (Some x) = site_row_to (sites.known_at times rank.place (Some (sites.held_for held x.0))) rank.place x
 
-others_row_to : (place : ℕ) (rest : Option Sums) → Between (sites.others_row place rest)
-others_row_to place None = none_between
-others_row_to place (Some sums) = site_row_to place (codes "(others)", sums)
+others_row_to : (times : Option (LimitedView SiteTimes)) (place : ℕ) (rest : Option Sums) → Between (sites.others_row times place rest)
+others_row_to times place None = none_between
+others_row_to times place (Some sums) = site_row_to (sites.known_at times place None) place (codes "(others)", sums)
 
-sites_table_to : (listed : LimitedView Sums) (ranks : List Rank) → Between (sites.sites_table listed ranks)
+sites_table_to : (times : Option (LimitedView SiteTimes)) (held : Places) (listed : LimitedView Sums) (ranks : List Rank) → Between (sites.sites_table times held listed ranks)
 unfolding after_all
-sites_table_to listed ranks =
+sites_table_to times held listed ranks =
     then_to (bits_to sites.sites_caption refl) (then_to (bits_to sites.sites_columns refl)
-    (then_to (each_to (sites.site_row_at listed.first) (site_row_at_to listed.first) (take 200 ranks))
-    (then_to (others_row_to (length listed.first) listed.rest) (record { is = refl }))))
+    (then_to (each_to (sites.site_row_at times held listed.first) (site_row_at_to times held listed.first) (take 200 ranks))
+    (then_to (others_row_to times (length listed.first) listed.rest) (record { is = refl }))))
 
-sites_to : (tasks : ℕ) (listed : LimitedView Sums) (ranks : List Rank) → Between (sites.sites_section tasks listed ranks)
+sites_to : (tasks : ℕ) (times : Option (LimitedView SiteTimes)) (held : Places) (listed : LimitedView Sums) (ranks : List Rank) → Between (sites.sites_section tasks times held listed ranks)
 unfolding after_all
-sites_to tasks listed ranks =
+sites_to tasks times held listed ranks =
     either (nat_le tasks 50) none_between
-    (then_to (bits_to sites.sites_head refl) (then_to (sites_table_to listed ranks)
+    (then_to (bits_to sites.sites_head refl) (then_to (sites_table_to times held listed ranks)
     (then_to (more_to (length listed.first) 200 (codes " places more, which ran and waited less")) (record { is = refl }))))
 
 -- ---- resources
@@ -500,11 +588,12 @@ header_to title watched lines gone tables =
     cut_to 5 refl (then_to (bits_to (heads.facts watched lines tables) refl) (then_to (gone_to gone) (cut_to 1 refl (then_to (missing_to tables.dropped) (then_to (late_to tables.tasks) (record { is = refl }))))))
 
 -- a page that begins between tags ends between tags
-pub sections_to : (title : List ℕ) (scale : Scale) (signs : Signs) (courses : Courses) (listed : LimitedView Sums) (tables : TablesView) (site_ranks ranks : List Rank)
-    (height : Height) → after_all (sections title scale signs courses listed tables site_ranks ranks height) (Some places.Text) ≡ Some places.Text
+pub sections_to : (title : List ℕ) (scale : Scale) (signs : Signs) (courses : Courses) (blamed : List Blamed) (times : Option (LimitedView SiteTimes)) (held : Places) (listed : LimitedView Sums) (tables : TablesView)
+    (site_ranks ranks : List Rank) (height : Height)
+    → after_all (sections title scale signs courses blamed times held listed tables site_ranks ranks height) (Some places.Text) ≡ Some places.Text
 unfolding after_all
-sections_to title scale signs courses listed tables site_ranks ranks height = page.is where
-  page : Between (sections title scale signs courses listed tables site_ranks ranks height)
+sections_to title scale signs courses blamed times held listed tables site_ranks ranks height = page.is where
+  page : Between (sections title scale signs courses blamed times held listed tables site_ranks ranks height)
   page =
       then_to (banner_to signs courses.lines tables) (then_to (header_to title (watched scale) courses.lines courses.gone tables) (cut_to 1 refl (then_to (odd_to scale signs courses tables)
-      (then_to (sites_to (came courses tables) listed site_ranks) (then_to (tasks_to scale signs courses tables ranks height) (then_to (resources_to scale tables) (record { is = refl })))))))
+      (then_to (sites_to (came courses tables) times held listed site_ranks) (then_to (tasks_to scale signs courses blamed tables ranks height) (then_to (resources_to scale tables) (record { is = refl })))))))

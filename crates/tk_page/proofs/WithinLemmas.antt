@@ -1,12 +1,17 @@
 -- The boxes of a strip stay within it, and the steps of a course add up.
-use Rattle.std.proofs.Common.{◌≡◌, ℕ, ◌+◌, ◌-◌, ◌*◌, ◌/◌, ◌<◌, ◌≤◌, ◌==◌, nat_lt, nat_le, min, max, Bool, true, false, ◌||◌, if◌then◌else◌, List, [], ◌∷◌, ◌++◌, refl, ap, sym, ◌∙◌, arith}
+use Rattle.std.proofs.Common.{◌≡◌, ℕ, ◌+◌, ◌-◌, ◌*◌, ◌/◌, ◌^◌, ◌<◌, ◌≤◌, ◌==◌, nat_lt, nat_le, min, max, Bool, true, false, ◌||◌, if◌then◌else◌, List, [], ◌∷◌, ◌++◌, refl, ap, ◌∙◌, arith}
 use native.Mathlib.Nat.{div-le_of_le-mul, div-mul-le_self, le-div_iff_mul-le, mul-le-mul_right}
-use Rattle.tk_core.specs.Lists.{total}
-use Rattle.tk_page.specs.Figures.{share_of, watched, wide_of, x_of}
+use Rattle.tk_core.specs.Lists.{capped, total}
+use Rattle.tk_page.specs.Figures.{mean_of, share_of, watched, wide_of, x_of}
 use Rattle.tk_page.specs.Samples.{step_of, time_of}
-use Rattle.tk_page.specs.Strips.{box_of, busy_height, mark_height, mark_of, steps_from, sum_box, wait_height, waited_in, width_of}
+use Rattle.tk_page.specs.Picture.{ends_at, high_of, part_box, part_high, split_of}
+use Rattle.tk_page.specs.Strips.{box_of, busy_height, mark_height, mark_of, steps_from, wait_height, waited_in, width_of}
 use Rattle.tk_page.specs.Within.{IsWithin, Rises}
 use Rattle.tk_page.specs.declared.figures.Scale.{Scale}
+use Rattle.tk_page.specs.declared.blame.Charge.{Charge}
+use Rattle.tk_page.specs.declared.picture.Split.{Split}
+use Rattle.tk_page.specs.declared.picture.Whom.{Whom}
+use Rattle.tk_page.specs.declared.picture.Whom.TheVariants as whom
 use Rattle.tk_page.specs.declared.sample.Sample.{Sample}
 use Rattle.tk_page.specs.declared.sample.Step.{Step}
 use Rattle.tk_page.specs.declared.strips.Boxes.{Boxes}
@@ -82,9 +87,57 @@ box_within scale which.Wait step = record { across = width_most scale step; down
 box_within scale (which.Wakes most) step = mark_within scale step step.wakes most
 box_within scale (which.Own most) step = mark_within scale step step.own most
 
--- the box of a step in the drawing of all tasks stays within that
-pub sum_within : (scale : Scale) (top : ℕ) (step : Step) → IsWithin (wide_of scale) 30 (sum_box scale top step)
-sum_within scale top step = record { across = width_most scale step; down = omega arith; up = part_most 30 (waited_in step) (max top 1000) }
+-- ---- the picture of who waited for whom
+
+high_most : (top n : ℕ) → high_of top n ≤ 60
+high_most top n = part_most 60 n (max top 1000)
+
+ends_most : (top : ℕ) (kind : Whom) (s : Split) → ends_at top kind s ≤ 60
+ends_most top whom.First s = high_most top s.first
+ends_most top whom.Second s = high_most top (capped (s.first + s.second))
+ends_most top whom.Rest s = high_most top s.waited
+
+-- the box of a part stays within the drawing
+pub part_within : (scale : Scale) (top : ℕ) (kind : Whom) (s : Split) → IsWithin (wide_of scale) 60 (part_box scale top kind s)
+part_within scale top kind s = record {
+  across = omega (arith, x_most scale s.from, x_most scale s.to);
+  down = omega arith;
+  up = let end = ends_most top kind s in omega (arith, end);
+}
+
+quotient_more : (k m n : ℕ) → 0 < k → m ≤ n → m / k ≤ n / k
+quotient_more k m n some le = (le-div_iff_mul-le {k = k} {x = m / k} {y = n} some).1 (omega (arith, le, div-mul-le_self m k))
+
+-- more is no less of the same whole
+share_more : (m n whole : ℕ) → m ≤ n → share_of m whole ≤ share_of n whole
+share_more m n whole le = by (whole == 0) (nat_le whole n) refl refl where
+  by : (none all : Bool) → (whole == 0) ≡ none → nat_le whole n ≡ all → share_of m whole ≤ share_of n whole
+  by true all a b = rw a (omega arith)
+  by false true a b = let most = share_most m whole in rw (a, b) (rw a at most)
+  by false false a b =
+      let some : 0 < whole = grind arith in
+      let less : nat_le whole m ≡ false = grind arith in
+      rw (a, b, less) (quotient_more whole (1000 * m) (1000 * n) some (omega (arith, le)))
+
+high_more : (top m n : ℕ) → m ≤ n → high_of top m ≤ high_of top n
+high_more top m n le = omega (arith, share_more m n (max top 1000) le)
+
+-- the parts of a step are together as high as the step
+pub parts_add : (top : ℕ) (first second : List Charge) (step : Step)
+    → part_high top whom.First (split_of first second step) + part_high top whom.Second (split_of first second step) + part_high top whom.Rest (split_of first second step)
+    ≡ high_of top (waited_in step)
+parts_add top first second step =
+    let s = split_of first second step in
+    let few : waited_in step ≤ 2 ^ 64 - 1 = mean_most step.sched (time_of step) in
+    let one = high_more top s.first (capped (s.first + s.second)) (omega (arith, few)) in
+    let both = high_more top (capped (s.first + s.second)) s.waited (omega (arith, few)) in
+    omega (arith, one, both)
+  where
+    mean_most : (part whole : ℕ) → mean_of part whole ≤ 2 ^ 64 - 1
+    mean_most part whole = by (whole == 0) where
+      by : (b : Bool) → (if b then 0 else capped (1000 * part / whole)) ≤ 2 ^ 64 - 1
+      by true = omega arith
+      by false = omega arith
 
 -- ---- steps
 

@@ -4,7 +4,8 @@ use Rattle.std.specs.List.{list_any}
 use Rattle.tk_ids.specs.declared.info.Dropped.{Dropped}
 use Rattle.tk_stream.specs.declared.tables.task.Task.{Task}
 use Rattle.tk_stream.specs.Tables.{TablesView}
-use Rattle.tk_paper.specs.Parts.{Bit, text, count, span, close, start, class}
+use Rattle.tk_paper.specs.Parts.{Bit, text, count, span, opens, ends, having_number, close, start, class}
+use Rattle.tk_paper.specs.declared.marks.Attr.TheVariants as attrs
 use Rattle.tk_paper.specs.declared.marks.Tag.TheVariants as tags
 use Rattle.tk_page.specs.Waiting.{waits_from_last_wake}
 
@@ -26,14 +27,15 @@ gone_fact n =
     if n == 0 then [] else
     text (32 ∷ 194 ∷ 183 ∷ 32 ∷ []) ∷ [] ++ fact n (codes " task closed and gone") (codes " tasks closed and gone")
 
--- how many tasks, resources and operations there are, how many lines there were, and how long the time is that is shown
+-- how many tasks, resources and operations there are, how many lines there were, and how long the time is that is shown, with the last line's moment
+-- for the script
 abbrev pub facts : ℕ → ℕ → TablesView → List Bit
 facts watched lines tables =
     fact (length tables.tasks) (dotted (codes " task")) (dotted (codes " tasks"))
     ++ (fact (length tables.resources) (dotted (codes " resource")) (dotted (codes " resources"))
     ++ (fact (length tables.ops) (dotted (codes " operation")) (dotted (codes " operations"))
     ++ (fact lines (codes " line over ") (codes " lines over ")
-    ++ start tags.B ∷ span watched ∷ close tags.B ∷ [])))
+    ++ opens tags.B ∷ having_number attrs.DataV tables.now ∷ ends ∷ span watched ∷ close tags.B ∷ [])))
 
 -- how many events were dropped
 abbrev pub dropped_facts : Dropped → List Bit

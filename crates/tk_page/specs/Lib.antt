@@ -28,8 +28,14 @@ pub mod Strips
 pub mod Within
 -- Which tasks are shown, and in which order
 pub mod Ranks
+-- For how long places held up others
+pub mod Charges
+-- Who waited for whom, drawn
+pub mod Picture
 -- The table of tasks
 pub mod Rows
+-- How long the polls of a place ran
+pub mod PollTimes
 -- The table of places
 pub mod Sites
 -- Resources and operations
@@ -42,3 +48,5 @@ pub mod Drawn
 pub mod Html
 -- What a page is
 pub mod Pages
+-- The page of two streams
+pub mod Changed

@@ -12,11 +12,12 @@ use Rattle.tk_paper.specs.Escaping.{PaperView}
 use Rattle.tk_paper.specs.Parts.{Bit, text, number, count, share, span, mean, opens, ends, close, start, class, having, having_number, value, quote}
 use Rattle.tk_paper.specs.declared.marks.Attr.TheVariants as attrs
 use Rattle.tk_paper.specs.declared.marks.Tag.TheVariants as tags
+use Rattle.tk_page.specs.declared.blamed.Blamed.{Blamed}
 use Rattle.tk_page.specs.declared.figures.Scale.{Scale}
 use Rattle.tk_page.specs.declared.oddities.Signs.{Signs}
+use Rattle.tk_page.specs.declared.picture.Split.{Split}
 use Rattle.tk_page.specs.declared.ranks.Rank.{Rank}
 use Rattle.tk_page.specs.declared.sample.Sample.{Sample}
-use Rattle.tk_page.specs.declared.sample.Step.{Step}
 use Rattle.tk_page.specs.declared.strips.Height.{Height}
 use Rattle.tk_page.specs.Figures.{each_of, share_of, watched}
 use Rattle.tk_page.specs.Badges.{badges, section}
@@ -26,7 +27,8 @@ use Rattle.tk_page.specs.Odd.{is_odd_at_all}
 use Rattle.tk_page.specs.Places.{id, location, more}
 use Rattle.tk_page.specs.Ranks.{AreInOrder, ranks_of}
 use Rattle.tk_core.specs.Lasting.{busy_until, sched_until}
-use Rattle.tk_page.specs.Strips.{axis, drawing, most_waited, steps_of, strip, sum_drawing}
+use Rattle.tk_page.specs.Picture.{picture, splits_of, whom_legend}
+use Rattle.tk_page.specs.Strips.{axis, drawing, most_waited, steps_of, strip}
 
 -- ---- what stands above the rows
 
@@ -51,7 +53,7 @@ controls =
     ∷ having attrs.Type (codes "search") ∷ ends ∷ close tags.Label ∷ start tags.Label ∷ opens tags.Input ∷ having attrs.Id (codes "only")
     ∷ having attrs.Type (codes "checkbox") ∷ ends ∷ text (codes " only odd ones") ∷ close tags.Label ∷ opens tags.Span ∷ having attrs.Id (codes "shown")
     ∷ having attrs.Role (codes "status") ∷ ends ∷ close tags.Span ∷ start tags.Span
-    ∷ text (codes "The head of a column sorts by it. Point at a strip to read a step, or press Tab and the arrows.") ∷ close tags.Span ∷ close tags.P ∷ []
+    ∷ text (codes "The head of a column sorts by it. Point at a strip to read a step, or press Tab and the arrows. Drag over a strip, or hold Shift with the arrows, to choose a span.") ∷ close tags.Span ∷ close tags.P ∷ []
 
 -- the head of a column, with a hint
 abbrev pub column : List ℕ → List ℕ → List ℕ → List Bit
@@ -90,11 +92,11 @@ height_cell height =
     ∷ text (codes "Tasks waiting at a time") ∷ close tags.Div ∷ start tags.Small ∷ text (codes "at most ") ∷ mean height.most
     ∷ text (codes ", the mean of a step") ∷ [] ++ (top height ++ close tags.Small ∷ close tags.Td ∷ start tags.Td ∷ [])
 
--- the row of all tasks
-abbrev pub sum_row : Scale → Height → List Step → List Bit
-sum_row scale height sums =
-    height_cell height ++ (sum_drawing scale height sums ++ (axis (watched scale)
-    ++ close tags.Td ∷ opens tags.Td ∷ having_number attrs.Colspan 7 ∷ ends ∷ close tags.Td ∷ close tags.Tr ∷ []))
+-- the row of all tasks: for whom they waited, the picture of it, and the moments below
+abbrev pub sum_row : Scale → Height → List Blamed → List Split → List Bit
+sum_row scale height blamed splits =
+    height_cell height ++ (whom_legend blamed ++ (picture scale height blamed splits ++ (axis (watched scale)
+    ++ close tags.Td ∷ opens tags.Td ∷ having_number attrs.Colspan 7 ∷ ends ∷ close tags.Td ∷ close tags.Tr ∷ [])))
 
 abbrev pub caption : ℕ → List Bit
 caption time =
@@ -102,9 +104,9 @@ caption time =
     ∷ text (codes "Each row is a task; its strip is its course of time from 0 to ") ∷ span time
     ∷ text (codes ".") ∷ close tags.Caption ∷ start tags.Thead ∷ []
 
-abbrev pub table_head : Scale → Height → List Step → List Bit
-table_head scale height sums =
-    caption (watched scale) ++ (sum_row scale height sums ++ (first_columns ++ (last_columns ++ close tags.Thead ∷ start tags.Tbody ∷ [])))
+abbrev pub table_head : Scale → Height → List Blamed → List Split → List Bit
+table_head scale height blamed splits =
+    caption (watched scale) ++ (sum_row scale height blamed splits ++ (first_columns ++ (last_columns ++ close tags.Thead ∷ start tags.Tbody ∷ [])))
 
 -- ---- a row
 
@@ -203,33 +205,33 @@ pub record AreRanks (scale : Scale) (signs : Signs) (tasks : List Task) (ranks :
   pub sorted : AreInOrder ranks
 
 -- the table: its head, and the rows of the first 200 tasks
-abbrev pub table : Scale → Signs → Courses → TablesView → List Rank → Height → List Bit
-table scale signs courses tables ranks height =
-    table_head scale height (steps_of scale.start courses.sums courses.last)
+abbrev pub table : Scale → Signs → Courses → List Blamed → TablesView → List Rank → Height → List Bit
+table scale signs courses blamed tables ranks height =
+    table_head scale height blamed (splits_of blamed (steps_of scale.start courses.sums courses.last))
     ++ (flat_map (row_at scale signs courses tables) (take 200 ranks) ++ close tags.Tbody ∷ close tags.Table ∷ close tags.Div ∷ [])
 
 -- the table was put. Up to where the drawing of all tasks goes is left open
-pub record WritesTable (scale : Scale) (signs : Signs) (courses : Courses) (tables : TablesView) (old new : PaperView) : Type 0 where
+pub record WritesTable (scale : Scale) (signs : Signs) (courses : Courses) (blamed : List Blamed) (tables : TablesView) (old new : PaperView) : Type 0 where
   pub ranks : List Rank
   pub ranked : AreRanks scale signs tables.tasks ranks
   pub height : Height
   pub most : height.most ≡ most_waited (steps_of scale.start courses.sums courses.last)
-  pub wrote : Writes old new (table scale signs courses tables ranks height)
+  pub wrote : Writes old new (table scale signs courses blamed tables ranks height)
 
 -- what stands above the table
 abbrev pub tasks_head : List Bit
 tasks_head = section (codes "tasks") (codes "Tasks") ++ (close tags.H2 ∷ [] ++ (legend ++ (controls ++ class tags.Div (codes "scroll") ∷ [])))
 
 -- the section of the tasks, with how many aren't shown
-abbrev pub tasks_section : Scale → Signs → Courses → TablesView → List Rank → Height → List Bit
-tasks_section scale signs courses tables ranks height =
-    tasks_head ++ (table scale signs courses tables ranks height
-    ++ (more (length tables.tasks) 200 (codes " tasks more, which ran and waited less") ++ close tags.Section ∷ []))
+abbrev pub tasks_section : Scale → Signs → Courses → List Blamed → TablesView → List Rank → Height → List Bit
+tasks_section scale signs courses blamed tables ranks height =
+    tasks_head ++ (table scale signs courses blamed tables ranks height
+    ++ (more (length tables.tasks) 200 (codes " tasks more, which have no row") ++ close tags.Section ∷ []))
 
 -- that section was put
-pub record WritesTasks (scale : Scale) (signs : Signs) (courses : Courses) (tables : TablesView) (old new : PaperView) : Type 0 where
+pub record WritesTasks (scale : Scale) (signs : Signs) (courses : Courses) (blamed : List Blamed) (tables : TablesView) (old new : PaperView) : Type 0 where
   pub ranks : List Rank
   pub ranked : AreRanks scale signs tables.tasks ranks
   pub height : Height
   pub most : height.most ≡ most_waited (steps_of scale.start courses.sums courses.last)
-  pub wrote : Writes old new (tasks_section scale signs courses tables ranks height)
+  pub wrote : Writes old new (tasks_section scale signs courses blamed tables ranks height)

@@ -3,7 +3,7 @@ use Rattle.std.specs.Prelude.{ℕ, ◌-◌, ◌*◌, ◌/◌, ◌==◌, nat_lt, 
 use Rattle.tk_core.specs.Lists.{capped}
 use Rattle.tk_core.specs.declared.task.row.TaskRow.{TaskRow}
 use Rattle.tk_stream.specs.declared.tables.task.Task.{Task}
-use Rattle.tk_paper.specs.Parts.{Bit, text, number, share, span, mean, opens, ends, close, start, having, having_number, value, quote}
+use Rattle.tk_paper.specs.Parts.{Bit, text, number, share, span, opens, ends, close, start, having, having_number, value, quote}
 use Rattle.tk_paper.specs.declared.marks.Attr.TheVariants as attrs
 use Rattle.tk_paper.specs.declared.marks.Tag.TheVariants as tags
 use Rattle.tk_page.specs.declared.figures.Scale.{Scale}
@@ -12,7 +12,6 @@ use Rattle.tk_page.specs.declared.sample.Step.{Step}
 use Rattle.tk_page.specs.declared.strips.Area.{Area}
 use Rattle.tk_page.specs.declared.strips.Boxes.{Boxes}
 use Rattle.tk_page.specs.declared.strips.Boxes.TheVariants as which
-use Rattle.tk_page.specs.declared.strips.Height.{Height}
 use Rattle.tk_page.specs.Figures.{mean_of, share_of, watched, wide_of, x_of}
 use Rattle.tk_page.specs.Odd.{is_lost}
 use Rattle.tk_page.specs.Samples.{nothing, sample_of, step_of, time_of}
@@ -151,38 +150,6 @@ waited_in step = mean_of step.sched (time_of step)
 -- the most that waited in a step
 abbrev pub most_waited : List Step → ℕ
 most_waited steps = fold (λ most step. max most (waited_in step)) 0 steps
-
--- a step's box in the drawing of all tasks, which goes up to so many
-abbrev pub sum_box : Scale → ℕ → Step → Area
-sum_box scale top step = record {
-  x = x_of scale step.from;
-  wide = width_of scale step;
-  base = 30;
-  high = share_of (waited_in step) (max top 1000) * 30 / 1000;
-}
-
--- the boxes of that drawing
-abbrev pub sum_boxes : Scale → ℕ → List Step → List Bit
-sum_boxes scale top steps = flat_map (λ step. box (sum_box scale top step)) steps
-
--- what a script tells of a step of all tasks: where it begins, and how many waited in the mean, in thousandths
-abbrev pub sum_reading : Scale → Step → List Bit
-sum_reading scale step = number (x_of scale step.from) ∷ text (codes ",") ∷ number (waited_in step) ∷ text (codes ";") ∷ []
-
-abbrev pub sum_readings : Scale → List Step → List Bit
-sum_readings scale steps = value attrs.DataSteps ∷ [] ++ (flat_map (sum_reading scale) steps ++ quote ∷ [])
-
--- what that drawing says in words
-abbrev pub sum_words : Height → List Bit
-sum_words height =
-    having attrs.Role (codes "img") ∷ value attrs.AriaLabel ∷ text (codes "How many tasks waited at a time: at most ") ∷ mean height.most
-    ∷ text (codes ", as the mean of a step") ∷ quote ∷ ends ∷ opens tags.Path ∷ having attrs.Class (codes "wait") ∷ value attrs.D ∷ []
-
--- the drawing of how many tasks waited at a time
-abbrev pub sum_drawing : Scale → Height → List Step → List Bit
-sum_drawing scale height steps =
-    drawing (codes "total") (wide_of scale) 30 ++ (sum_readings scale steps ++ (sum_words height ++ (sum_boxes scale height.top steps
-    ++ quote ∷ ends ∷ close tags.Path ∷ close tags.Svg ∷ [])))
 
 -- so many sixths of a time, rounded down
 abbrev pub sixths : ℕ → ℕ → ℕ

@@ -6,6 +6,7 @@ ghost use Rattle.tk_page.specs.Courses.{courses_of};
 ghost use Rattle.tk_paper.specs.Pieces.{Writes};
 
 use crate::banner::put_banner;
+use crate::blamed::Blamed;
 use crate::cards::put_odd;
 use crate::figures::{Scale, count};
 use crate::history::History;
@@ -16,10 +17,11 @@ use crate::tasks::put_tasks;
 use crate::waiting::any_waits_from_last_wake;
 use std::alloc::{AllocError, Global};
 use tk_ids::Dropped;
-use tk_paper::Part::{Class, Close, Count, Span, Start, Text};
-use tk_paper::{Paper, Tag};
-use tk_series::Limited;
-use tk_sites::Sums;
+use tk_odd::Held;
+use tk_paper::Part::{Class, Close, Count, End, Open, Span, Start, Text, WithNumber};
+use tk_paper::{Attr, Paper, Tag};
+use tk_series::{Limited, Series};
+use tk_sites::{SiteTimes, Sums};
 use tk_stream::Tables;
 
 // The moment at the page's left: the first line's, or that of the earliest creation of a task.
@@ -35,7 +37,8 @@ fn start_of(first: u64, tables: &Tables) -> u64
     start
 }
 
-fn put_fact(
+/// Puts a number, and what it counts: one of them, or more.
+pub(crate) fn put_fact(
     paper: &mut Paper,
     number: u64,
     one: &'static str,
@@ -80,7 +83,13 @@ fn put_facts(paper: &mut Paper, watched: u64, lines: u64, tables: &Tables) -> Re
     put_fact(paper, count(resources), " resource · ", " resources · ")?;
     put_fact(paper, count(ops), " operation · ", " operations · ")?;
     put_fact(paper, lines, " line over ", " lines over ")?;
-    paper.put(&[Start(Tag::B), Span(watched), Close(Tag::B)])?;
+    paper.put(&[
+        Open(Tag::B),
+        WithNumber(Attr::DataV, tables.now()),
+        End,
+        Span(watched),
+        Close(Tag::B),
+    ])?;
     Ok(())
 }
 
@@ -188,18 +197,21 @@ pub(crate) fn put_page(
     scale: Scale,
     signs: &Signs,
     history: &History,
+    blamed: &[Blamed],
+    times: &Option<Limited<SiteTimes>>,
+    held: &Series<Held>,
     sites: &Limited<Sums>,
     tables: &Tables,
 ) -> Result<(), AllocError>
-    ensures { OnOk result (drawn.DrawsSections title.now scale signs.now (courses_of history.now) sites.now tables.now paper.old paper.new) }
+    ensures { OnOk result (drawn.DrawsSections title.now scale signs.now (courses_of history.now) blamed.now times.now held.now sites.now tables.now paper.old paper.new) }
 {
     let lines = history.lines();
     put_banner(paper, signs, lines, tables)?;
     put_header(paper, title, scale.watched(), lines, history.gone(), tables)?;
     paper.put(&[Start(Tag::Main)])?;
     put_odd(paper, scale, signs, history, tables)?;
-    put_sites(paper, alloc, came(history, tables), sites)?;
-    put_tasks(paper, alloc, scale, signs, history, tables)?;
+    put_sites(paper, alloc, came(history, tables), times, held, sites)?;
+    put_tasks(paper, alloc, scale, signs, history, blamed, tables)?;
     put_resources(paper, alloc, scale, tables)?;
     paper.put(&[Close(Tag::Main)])?;
     Ok(())

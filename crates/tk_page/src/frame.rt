@@ -2,8 +2,8 @@
 
 /// What stands before the page's text.
 pub const HEAD: &str = "<!DOCTYPE html>
-<html lang=\"en\"><head><meta charset=\"utf-8\"><meta http-equiv=\"Content-Security-Policy\" content=\"default-src 'none'; style-src 'sha256-Dd3MNHN1aCx5EL+aY6sHfVjr7a85wwAIE8kKPaJX1ls='; script-src 'sha256-rDwe+I2GqaEPaCHsVv7SSe1W3ocGplb5+aTSg9+3Osc='\"><meta name=\"viewport\" content=\"width=device-width, initial-scale=1\"><meta name=\"color-scheme\" content=\"light dark\"><title>taskscope</title><style>:root{--bg:#fff;--ink:#1a2027;--dim:#5a6672;--rule:#d5dce3;--card:#f6f8fa;--idle:#e6ebf0;--busy:#1f6fb8;--wait:#a85a00;--wake:#7b8794;--own:#b5179e;--bad:#c62828;--link:#0b5cad}
-@media (prefers-color-scheme:dark){:root{--bg:#11161c;--ink:#e4e9ee;--dim:#9aa7b4;--rule:#2b353f;--card:#19212a;--idle:#25303b;--busy:#4fa3e8;--wait:#ffa53d;--wake:#8796a5;--own:#f06fd8;--bad:#ff6b61;--link:#7fc0ff}}
+<html lang=\"en\"><head><meta charset=\"utf-8\"><meta http-equiv=\"Content-Security-Policy\" content=\"default-src 'none'; style-src 'sha256-gkKfALHMG4jjhIvDJbFO/gXOpq91QcxOcC+T4YnbAM0='; script-src 'sha256-5Fa93fw74jbjb7EaQQ/eGT+jRReaoyzxcaHAOxM2Pz8='\"><meta name=\"viewport\" content=\"width=device-width, initial-scale=1\"><meta name=\"color-scheme\" content=\"light dark\"><title>taskscope</title><style>:root{--bg:#fff;--ink:#1a2027;--dim:#5a6672;--rule:#d5dce3;--card:#f6f8fa;--idle:#e6ebf0;--busy:#1f6fb8;--wait:#a85a00;--wake:#7b8794;--own:#b5179e;--bad:#c62828;--link:#0b5cad;--first:#0d3b66;--second:#3d8fd9}
+@media (prefers-color-scheme:dark){:root{--bg:#11161c;--ink:#e4e9ee;--dim:#9aa7b4;--rule:#2b353f;--card:#19212a;--idle:#25303b;--busy:#4fa3e8;--wait:#ffa53d;--wake:#8796a5;--own:#f06fd8;--bad:#ff6b61;--link:#7fc0ff;--first:#cfe6ff;--second:#2f7cc4}}
 *{box-sizing:border-box}
 body{margin:0;background:var(--bg);color:var(--ink);font:15px/1.45 system-ui,'Segoe UI','DejaVu Sans',sans-serif}
 header,main{max-width:1440px;margin:0 auto;padding:0 24px}
@@ -26,7 +26,7 @@ ul.odd h3 .icon{font-weight:700}
 .do{color:var(--dim);font-size:14px}
 .legend{display:flex;flex-wrap:wrap;gap:4px 18px;font-size:13px}
 .legend i{forced-color-adjust:none;display:inline-block;width:14px;height:12px;border-radius:2px;vertical-align:-1px}
-.k-busy{background:var(--busy)}.k-wait{background:var(--wait)}.k-alive{background:var(--idle)}.k-lost{background:var(--bad);opacity:.55}
+.k-first{background:var(--first)}.k-second{background:var(--second)}.k-busy{background:var(--busy)}.k-wait{background:var(--wait)}.k-alive{background:var(--idle)}.k-lost{background:var(--bad);opacity:.55}
 .legend .k-wake,.legend .k-own{height:5px;vertical-align:2px}.k-wake{background:var(--wake)}.k-own{background:var(--own)}
 .controls{display:flex;flex-wrap:wrap;gap:6px 20px;font-size:14px;align-items:center}
 input[type=search]{font:inherit;padding:3px 8px;border:1px solid var(--rule);border-radius:4px;background:var(--bg);color:inherit}
@@ -44,13 +44,16 @@ tbody th{font-weight:600;min-width:150px;max-width:280px;overflow-wrap:anywhere}
 tr:target{background:var(--card);outline:2px solid var(--link);outline-offset:-2px}
 .course{width:48%;min-width:340px;padding:4px 0}
 svg{display:block}
+svg.hist{display:inline-block;width:84px;height:16px;vertical-align:-3px;margin-right:4px;border-bottom:1px solid var(--rule)}
 svg.strip{width:100%;height:30px}
-svg.total{width:100%;height:44px;border-bottom:1px solid var(--rule)}
+svg.total{width:100%;height:64px;border-bottom:1px solid var(--rule)}
+.total path{stroke:var(--bg);stroke-width:.6;vector-effect:non-scaling-stroke}
+.whom .who{color:var(--ink);overflow-wrap:anywhere}
 tr.sum td{border:0;padding-bottom:0}tr.sum td:nth-child(2){padding-left:0;padding-right:0}
 .lead{text-align:right;font-size:13px}
 #table td:nth-child(4),#table td:nth-child(5){min-width:118px}
 svg.bar{float:left;margin-top:6px;width:52px;height:9px;background:var(--idle);border-radius:2px;margin-right:4px}
-.busy{fill:var(--busy)}.wait{fill:var(--wait)}.alive{fill:var(--idle)}.wake{fill:var(--wake)}.own{fill:var(--own)}.lost{fill:var(--bad);fill-opacity:.55}
+.first{fill:var(--first)}.second{fill:var(--second)}.busy{fill:var(--busy)}.wait{fill:var(--wait)}.alive{fill:var(--idle)}.wake{fill:var(--wake)}.own{fill:var(--own)}.lost{fill:var(--bad);fill-opacity:.55}
 .axis{display:flex;justify-content:space-between;font-size:11px;color:var(--dim)}
 .badge{display:inline-block;font-size:11.5px;font-weight:600;border:1px solid currentColor;border-radius:9px;padding:0 7px;margin:2px 4px 0 0;color:var(--bad);white-space:nowrap}
 .badge.holds{color:var(--busy)}.badge.self{color:var(--own)}.badge.unpolled{color:var(--wait)}
@@ -58,7 +61,7 @@ svg.bar{float:left;margin-top:6px;width:52px;height:9px;background:var(--idle);b
 .res{border:1px solid var(--rule);border-radius:4px;padding:10px 14px;margin-bottom:10px}
 dl{display:flex;flex-wrap:wrap;gap:2px 22px;margin:2px 0}dl div{display:flex;gap:6px}dt{color:var(--dim)}dd{margin:0;font-weight:600;font-variant-numeric:tabular-nums}
 summary{cursor:pointer}
-@media print{:root{--bg:#fff;--ink:#000;--dim:#444;--rule:#bbb;--card:#f4f4f4;--idle:#e6ebf0;--busy:#1f6fb8;--wait:#a85a00;--wake:#7b8794;--own:#b5179e;--bad:#c62828}*{print-color-adjust:exact;-webkit-print-color-adjust:exact}.controls,#step{display:none}tr,li,.res{break-inside:avoid}thead th{position:static}.do,.legend,.lead,.controls,caption,h3,small,.badge{font-size:inherit}body{font-size:11px}header,main{padding:0;max-width:none}table{font-size:10.5px}.course{min-width:0}@page{size:landscape;margin:12mm}}
+@media print{:root{--bg:#fff;--ink:#000;--dim:#444;--rule:#bbb;--card:#f4f4f4;--idle:#e6ebf0;--busy:#1f6fb8;--wait:#a85a00;--wake:#7b8794;--own:#b5179e;--bad:#c62828;--first:#0d3b66;--second:#3d8fd9}*{print-color-adjust:exact;-webkit-print-color-adjust:exact}.controls,#step{display:none}tr,li,.res{break-inside:avoid}thead th{position:static}.do,.legend,.lead,.controls,caption,h3,small,.badge{font-size:inherit}body{font-size:11px}header,main{padding:0;max-width:none}table{font-size:10.5px}.course{min-width:0}@page{size:landscape;margin:12mm}}
 .note{flex-basis:100%;margin:0;color:var(--dim)}
 .now{max-width:1392px;width:calc(100% - 48px);margin:14px auto 0;border:2px solid var(--bad);border-radius:6px;padding:8px 16px}
 .now .tag{background:var(--bad);color:var(--bg);border-radius:4px;padding:1px 8px;font-weight:700;font-size:12px;text-transform:uppercase}
@@ -70,22 +73,39 @@ ul.odd h3 small{font-weight:400;margin-left:4px}
 td dl{margin:0}
 .in{min-width:230px;font-size:12px;font-weight:400;color:var(--dim)}
 #step{position:absolute;z-index:2;max-width:420px;background:var(--ink);color:var(--bg);border-radius:4px;padding:3px 9px;font-size:13px;pointer-events:none}
-.at{fill:var(--ink);fill-opacity:.18;pointer-events:none}svg[tabindex]:focus-visible{outline:2px solid var(--link);outline-offset:1px}
+.at{fill:var(--ink);fill-opacity:.18;pointer-events:none}.at.span{fill-opacity:.1;stroke:var(--ink)}#span button{font:inherit}.narrow tbody td:nth-child(6),.narrow tbody td:nth-child(7),.narrow tbody td:nth-child(10){color:var(--dim);font-style:italic}#table svg.total,#table svg.strip{cursor:crosshair}svg[tabindex]:focus-visible{outline:2px solid var(--link);outline-offset:1px}
 @media(max-width:700px){header,main{padding:0 12px}.scroll{overflow:visible}.scroll.wide{overflow-x:auto}#table,#table caption,#table thead,#table tbody,#table th,#table td{display:block}#table thead tr{display:none}#table thead tr.sum{display:block}tr.sum td:last-child{display:none}.lead{text-align:left}
 #table tbody tr{display:grid;grid-template-columns:repeat(3,1fr);padding:6px 0;border-bottom:1px solid var(--rule)}#table tbody tr[hidden]{display:none}#table tbody th,#table tbody td{border:0;padding:2px 4px;min-width:0;max-width:none}
 #table tbody th{grid-column:1/3}#table tbody td:nth-child(2){text-align:right}#table tbody .course{grid-column:1/-1;width:auto}#table tbody td:nth-child(n+7){display:none}#table tbody .num{text-align:left}svg.bar{display:none}.in{min-width:0}
 #table tbody td:nth-child(4)::before{content:'busy '}#table tbody td:nth-child(5)::before{content:'waiting '}#table tbody td:nth-child(6)::before{content:'a poll '}}
+.verdict b{white-space:nowrap}ul.odd li.change{border-color:var(--dim)}
+#changes tbody th{font-weight:400;max-width:480px}#changes td:nth-child(2){font-weight:700}#changes .worse td:nth-child(2){color:var(--bad)}#changes .better td:nth-child(2){color:var(--busy)}
+.own-link{margin-left:6px;text-decoration:none;color:var(--dim);opacity:0}tr:hover .own-link,.own-link:focus{opacity:1}
+footer{max-width:1440px;margin:26px auto 18px;padding:0 24px;font-size:12px;color:var(--dim)}
 </style></head><body>
 ";
 
 /// What stands after the page.
 pub const TAIL: &str = "
+<footer>Made by taskscope 0.1.0</footer>
 <script>'use strict';
 document.body.className = 'live';
 const title = document.querySelector('h1').textContent;
 if (title !== 'taskscope') document.title = title + ': taskscope';
-const table = document.getElementById('table'), sites = document.getElementById('sites'), all = [...table.tBodies[0].rows];
-const filter = document.getElementById('filter'), only = document.getElementById('only'), shown = document.getElementById('shown');
+const table = document.getElementById('table') || document.getElementById('changes'), sites = document.getElementById('sites'), all = [...table.tBodies[0].rows];
+const input = (id) => document.getElementById(id) || document.createElement('input');
+for (const row of all) {
+  const link = document.createElement('a');
+  link.className = 'own-link';
+  link.href = '#' + row.id;
+  link.textContent = '#';
+  link.title = 'the link to this row';
+  link.tabIndex = -1;
+  if (row.id) row.cells[0].append(link);
+}
+const filter = input('filter'), only = input('only'), shown = input('shown');
+const count = document.querySelector('.facts b'), many = table.id === 'table' && count ? Number(count.textContent.replace(/[^0-9]/g, '')) : 0;
+const few = all.length < many ? all.length + ' of ' + count.textContent + ' tasks have rows' : '';
 const show = () => {
   const word = filter.value.toLowerCase();
   let n = 0;
@@ -94,8 +114,9 @@ const show = () => {
     row.hidden = !name.includes(word) || (only.checked && row.dataset.odd !== '1');
     if (!row.hidden) n++;
   }
-  shown.textContent = n === all.length ? '' : n + ' of ' + all.length + ' tasks';
+  shown.textContent = n === all.length ? few : n + ' of ' + all.length + ' tasks' + (few && ' that have rows');
 };
+let span = null;
 const keep = () => {
   const asked = new URLSearchParams();
   if (filter.value) asked.set('name', filter.value);
@@ -104,6 +125,7 @@ const keep = () => {
     const head = sortable && sortable.tHead.querySelector('[aria-sort]');
     if (head) asked.set(word, (head.ariaSort === 'descending' ? '-' : '') + head.cellIndex);
   }
+  if (span) asked.set('span', span.join('-'));
   const words = asked.toString();
   history.replaceState(null, '', (words ? '?' + words : location.pathname) + location.hash);
 };
@@ -119,18 +141,24 @@ addEventListener('hashchange', () => {
   }
 });
 const of = (cell) => cell.dataset.v === undefined ? cell.textContent : BigInt(cell.dataset.v);
+const order = (table, rows) => {
+  const head = table.tHead.querySelector('[aria-sort]');
+  if (!head) return;
+  const i = head.cellIndex, way = head.getAttribute('aria-sort') === 'descending' ? -1 : 1;
+  rows.sort((a, b) => {
+    const x = of(a.cells[i]), y = of(b.cells[i]);
+    return (x < y ? -1 : x > y ? 1 : 0) * way;
+  });
+  table.tBodies[0].append(...rows);
+};
 const sorts = (table, rows) => {
   for (const button of table.tHead.querySelectorAll('button')) {
     const head = button.parentNode;
     button.addEventListener('click', () => {
-      const i = head.cellIndex, down = head.getAttribute('aria-sort') !== 'descending';
+      const down = head.getAttribute('aria-sort') !== 'descending';
       for (const other of table.tHead.querySelectorAll('[aria-sort]')) other.removeAttribute('aria-sort');
       head.setAttribute('aria-sort', down ? 'descending' : 'ascending');
-      rows.sort((a, b) => {
-        const x = of(a.cells[i]), y = of(b.cells[i]);
-        return (x < y ? -1 : x > y ? 1 : 0) * (down ? -1 : 1);
-      });
-      table.tBodies[0].append(...rows);
+      order(table, rows);
       keep();
     });
   }
@@ -175,9 +203,11 @@ const moment = (x, wide) => {
   return time(x * unit);
 };
 const share = (n) => tenths(n, 100) + ' %';
+const mean = (n) => grouped(Math.floor(n / 1000)) + '.' + Math.floor(n % 1000 / 100);
+const whom = [...table.querySelectorAll('.who')].map((who) => who.textContent);
 const told = (strip, step) => {
   const name = strip.closest('tr').querySelector('.name');
-  if (!name) return grouped(Math.floor(step[1] / 1000)) + '.' + Math.floor(step[1] % 1000 / 100) + ' tasks waited';
+  if (!name) return mean(step[1]) + ' tasks waited' + whom.map((who, i) => step[i + 2] ? ', ' + mean(step[i + 2]) + ' for ' + who : '').join('');
   const own = step[4] ? ', ' + grouped(step[4]) + ' of its own' : '';
   return name.textContent + ': busy ' + share(step[1]) + ', waiting ' + share(step[2]) + ', ' + grouped(step[3]) + (step[3] === 1 ? ' wake' : ' wakes') + own;
 };
@@ -205,7 +235,64 @@ const tell = (strip, i) => {
   tip.style.left = scrollX + Math.max(8, Math.min(box.left + box.width * step[0] / end, most)) + 'px';
   tip.style.top = scrollY + (box.bottom + tip.offsetHeight + 8 > innerHeight ? box.top - tip.offsetHeight - 4 : box.bottom + 4) + 'px';
 };
-let reached = 0;
+const chosen = document.createElement('span'), band = mark.cloneNode(), whole = new Map();
+chosen.setAttribute('role', 'status');
+chosen.id = 'span';
+band.setAttribute('class', 'at span');
+shown.after(chosen);
+const sums = (strip, from, to) => {
+  const every = steps(strip), sum = [0, 0, 0, 0];
+  every.forEach((step, i) => {
+    const end = i + 1 < every.length ? every[i + 1][0] : wide(strip), part = Math.min(end, to) - Math.max(step[0], from);
+    if (part > 0) sum.forEach((_, n) => { sum[n] += step[n + 1] * part / (n < 2 ? to - from : end - step[0]); });
+  });
+  return sum;
+};
+const put = (cell, v, text, share) => {
+  cell.dataset.v = Math.round(v);
+  cell.lastChild.textContent = text;
+  const box = cell.querySelector('svg.bar rect');
+  if (box) box.setAttribute('width', Math.min(100, Math.round(share / 10)));
+};
+const narrow = (row) => {
+  const strip = row.querySelector('svg[data-steps]');
+  if (!strip) return;
+  const [busy, wait, wakes, own] = sums(strip, ...span), time = (span[1] - span[0]) * unit;
+  put(row.cells[3], busy * time / 1000, ' ' + share(busy), busy);
+  put(row.cells[4], wait * time / 1000, ' ' + share(wait), wait);
+  put(row.cells[7], wakes, grouped(Math.round(wakes)));
+  put(row.cells[8], own, grouped(Math.round(own)));
+};
+const choose = (from, to) => {
+  const total = table.querySelector('svg.total');
+  for (const [cell, was] of whole) {
+    cell.replaceChildren(...[...was.childNodes].map((node) => node.cloneNode(true)));
+    cell.dataset.v = was.dataset.v;
+  }
+  band.remove();
+  chosen.replaceChildren();
+  span = total && from >= 0 && from < to && to <= wide(total) ? [from, to] : null;
+  table.classList.toggle('narrow', span !== null);
+  if (span) {
+    if (!whole.size) for (const row of all) for (const i of [3, 4, 7, 8]) whole.set(row.cells[i], row.cells[i].cloneNode(true));
+    all.forEach(narrow);
+    band.setAttribute('x', from);
+    band.setAttribute('width', to - from);
+    total.append(band);
+    const lift = document.createElement('button');
+    lift.type = 'button';
+    lift.textContent = 'Show the whole time';
+    lift.addEventListener('click', () => choose(0, 0));
+    chosen.append('Busy, waiting, wakes and own: from ' + moment(from, wide(total)) + ' to ' + moment(to, wide(total)) + ' ', lift);
+  }
+  order(table, all);
+  keep();
+};
+const reaches = (strip, from, to) => {
+  const every = steps(strip), [a, b] = from < to ? [from, to] : [to, from];
+  if (every[a]) choose(every[a][0], b + 1 < every.length ? every[b + 1][0] : wide(strip));
+};
+let reached = 0, anchor = null;
 const reach = (strip) => {
   for (const other of table.querySelectorAll('svg[tabindex]')) other.setAttribute('tabindex', '-1');
   strip.setAttribute('tabindex', '0');
@@ -213,10 +300,18 @@ const reach = (strip) => {
 };
 for (const strip of table.querySelectorAll('svg[data-steps]')) {
   strip.setAttribute('tabindex', '-1');
-  const point = (event) => {
+  const under = (event) => {
     const box = strip.getBoundingClientRect();
-    tell(strip, at(strip, (event.clientX - box.left) / box.width * wide(strip)));
+    return at(strip, (event.clientX - box.left) / box.width * wide(strip));
   };
+  const point = (event) => tell(strip, under(event));
+  let pressed = null;
+  strip.addEventListener('pointerdown', (event) => { pressed = event.pointerType === 'touch' ? null : under(event); });
+  strip.addEventListener('pointerup', (event) => {
+    const i = under(event);
+    if (pressed !== null && i !== pressed && i >= 0) reaches(strip, Math.max(0, pressed), i);
+    pressed = null;
+  });
   strip.addEventListener('pointermove', point);
   strip.addEventListener('pointerdown', point);
   strip.addEventListener('pointerleave', hide);
@@ -226,16 +321,29 @@ for (const strip of table.querySelectorAll('svg[data-steps]')) {
     const all = steps(strip), i = Math.max(0, at(strip, reached)), rows = strips(), row = rows.indexOf(strip);
     const go = { ArrowLeft: i - 1, ArrowRight: i + 1, Home: 0, End: all.length - 1 }[event.key];
     const next = { ArrowUp: rows[row - 1], ArrowDown: rows[row + 1] }[event.key];
-    if (event.key === 'Escape') hide();
+    if (event.key === 'Escape') {
+      hide();
+      if (span) choose(0, 0);
+    }
     if (next) reach(next);
     if (go !== undefined) {
       const to = Math.max(0, Math.min(go, all.length - 1));
+      anchor = event.shiftKey ? anchor ?? reached : null;
       reached = all[to][0];
       tell(strip, to);
+      if (anchor !== null) reaches(strip, Math.max(0, at(strip, anchor)), to);
     }
     if (next || go !== undefined) event.preventDefault();
   });
 }
 if (strips()[0]) strips()[0].setAttribute('tabindex', '0');
+const last = document.querySelector('.facts b[data-v]'), ended = last ? Number(last.dataset.v) / 1e9 : 0;
+if (ended > 1e9 && ended < 4e9) {
+  const old = Math.floor(Date.now() / 1000 - ended), [word, size] = [['days', 86400], ['h', 3600], ['min', 60]].find((one) => old >= 2 * one[1]) || ['s', 1];
+  const day = new Date(ended * 1000).toISOString().slice(0, 19).replace('T', ' ');
+  last.after(', until ' + day + ' UTC' + (old < 0 ? '' : ', ' + Math.floor(old / size) + ' ' + word + ' ago'));
+}
+const [from, to] = (asked.get('span') || '').split('-').map(Number);
+if (to) choose(from, to);
 </script></body></html>
 ";

@@ -1,12 +1,16 @@
 //! A stream as one page of HTML, which needs nothing else: what is odd, each task's course of time, and the resources.
 //!
 //! - [`view_page`], [`view_page_with`]: reads a stream to its end, line by line, and writes the page.
+//! - [`view_changes`]: writes the page of what changed from a stream to a later one.
 //! - [`Sample`]: what a course of time keeps of a task at a line.
 #![tactic(auto)]
 
 mod badges;
 mod banner;
+mod blame;
+mod blamed;
 mod cards;
+mod changed;
 mod drawing;
 mod figures;
 mod frame;
@@ -14,6 +18,8 @@ mod history;
 mod idle;
 pub mod laws;
 mod oddities;
+mod picture;
+mod poll_times;
 mod ranks;
 mod resources;
 mod sample;
@@ -26,5 +32,6 @@ mod values;
 mod view;
 mod waiting;
 
+pub use changed::view_changes;
 pub use sample::Sample;
 pub use view::{view_page, view_page_with};

@@ -1,12 +1,14 @@
-//! Which tasks and places a page shows, and in which order: odd ones first, then by how long they ran and waited.
+//! Which tasks and places a page shows, and in which order: odd ones first, then by how long they ran and waited. Which places held up others longest.
 ghost use Rattle.std.specs.Prelude.{◌≡◌, IfOk};
 ghost use Rattle.std.specs.List.Sorted.{IsPermutation};
+ghost use Rattle.tk_page.specs.Charges as charges;
 ghost use Rattle.tk_page.specs.Ranks as spec;
 
 use crate::figures::Scale;
 use crate::oddities::Signs;
 use std::alloc::{AllocError, Global};
-use tk_series::Limited;
+use tk_odd::Held;
+use tk_series::{Limited, Series};
 use tk_sites::Sums;
 use tk_stream::{Tables, Task};
 
@@ -79,6 +81,39 @@ pub(crate) fn site_ranks_of(alloc: Global, sites: &Limited<Sums>) -> Result<Vec<
     ensures { IfOk result (λ ranks. spec.AreSiteRanks sites.now.first ranks.items) }
 {
     let mut ranks = list_site_ranks(alloc, sites)?;
+    ranks.as_mut_slice().sort_unstable();
+    Ok(ranks)
+}
+
+// The rank of a place by what it is charged with.
+fn rank_of_held(held: &Held, place: usize) -> Rank
+    ensures { result ≡ charges.held_rank place held.now }
+{
+    Rank {
+        calm: true,
+        below: u64::MAX - held.charged,
+        place,
+    }
+}
+
+// The ranks of places by what they are charged with, in their order.
+fn list_held_ranks(alloc: Global, places: &Series<Held>) -> Result<Vec<Rank>, AllocError>
+    ensures { IfOk result (λ ranks. ranks.items ≡ charges.held_ranks_of places.now) }
+{
+    let mut ranks = Vec::new(alloc);
+    for place in 0..places.len() {
+        if let Some((_, held)) = places.at(place) {
+            ranks.push(rank_of_held(&held, place))?;
+        }
+    }
+    Ok(ranks)
+}
+
+/// The ranks of places by what they are charged with, in order.
+pub(crate) fn held_ranks_of(alloc: Global, places: &Series<Held>) -> Result<Vec<Rank>, AllocError>
+    ensures { IfOk result (λ ranks. charges.AreHeldRanks places.now ranks.items) }
+{
+    let mut ranks = list_held_ranks(alloc, places)?;
     ranks.as_mut_slice().sort_unstable();
     Ok(ranks)
 }

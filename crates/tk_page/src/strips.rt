@@ -74,16 +74,17 @@ fn mark_height(count: u64, most: u64) -> u64
     }
 }
 
-// A box of a path: from a height up.
+/// A box of a path: from a height up.
 #[derive(Clone, Copy)]
-struct Area {
-    x: u64,
-    wide: u64,
-    base: u64,
-    high: u64,
+pub(crate) struct Area {
+    pub x: u64,
+    pub wide: u64,
+    pub base: u64,
+    pub high: u64,
 }
 
-fn put_box(paper: &mut Paper, area: Area) -> Result<(), AllocError>
+/// Puts a box in a path, if it isn't empty.
+pub(crate) fn put_box(paper: &mut Paper, area: Area) -> Result<(), AllocError>
     ensures { OnOk result (Writes paper.old paper.new (spec.box area)) }
 {
     let Area {
@@ -197,8 +198,8 @@ fn put_rect(paper: &mut Paper, class: &'static str, x: u64, wide: u64) -> Result
     ])
 }
 
-// Begins a drawing of the time that is shown, so many units high.
-fn open_drawing(
+/// Begins a drawing of the time that is shown, so many units high.
+pub(crate) fn open_drawing(
     paper: &mut Paper,
     class: &'static str,
     scale: Scale,
@@ -364,8 +365,8 @@ pub(crate) fn put_strip(
     Ok(())
 }
 
-// How many tasks waited in the mean of a step, in thousandths.
-fn waited_in(step: &Step) -> u64
+/// How many tasks waited in the mean of a step, in thousandths.
+pub(crate) fn waited_in(step: &Step) -> u64
     ensures { result ≡ spec.waited_in step.now }
 {
     mean(step.sched, step.time())
@@ -400,99 +401,6 @@ pub(crate) fn height_of(steps: &[Step]) -> Height
         most,
         top: if stands_out { low } else { most },
     }
-}
-
-// How high the drawing of all tasks is.
-const SUM_HIGH: u64 = 30;
-
-fn put_sum_words(paper: &mut Paper, height: Height) -> Result<(), AllocError>
-    ensures { OnOk result (Writes paper.old paper.new (spec.sum_words height)) }
-{
-    paper.put(&[
-        With(Attr::Role, "img"),
-        Value(Attr::AriaLabel),
-        Text("How many tasks waited at a time: at most "),
-        Mean(height.most),
-        Text(", as the mean of a step"),
-        Quote,
-        End,
-        Open(Tag::Path),
-        With(Attr::Class, "wait"),
-        Value(Attr::D),
-    ])
-}
-
-// Puts what is read of a step of all tasks: where it begins, and how many waited.
-fn put_sum_reading(paper: &mut Paper, scale: Scale, step: &Step) -> Result<(), AllocError>
-    ensures { OnOk result (Writes paper.old paper.new (spec.sum_reading scale step.now)) }
-{
-    paper.put(&[
-        Number(scale.x(step.from)),
-        Text(","),
-        Number(waited_in(step)),
-        Text(";"),
-    ])
-}
-
-fn put_each_sum_reading(paper: &mut Paper, scale: Scale, steps: &[Step]) -> Result<(), AllocError>
-    ensures { OnOk result (Writes paper.old paper.new (flat_map (spec.sum_reading scale) steps.now)) }
-{
-    for step in steps {
-        put_sum_reading(paper, scale, step)?;
-    }
-    Ok(())
-}
-
-fn put_sum_readings(paper: &mut Paper, scale: Scale, steps: &[Step]) -> Result<(), AllocError>
-    ensures { OnOk result (Writes paper.old paper.new (spec.sum_readings scale steps.now)) }
-{
-    paper.put(&[Value(Attr::DataSteps)])?;
-    put_each_sum_reading(paper, scale, steps)?;
-    paper.put(&[Quote])?;
-    Ok(())
-}
-
-fn sum_box(scale: Scale, step: &Step, top: u64) -> Area
-    ensures { result ≡ spec.sum_box scale top step.now }
-{
-    let x = scale.x(step.from);
-    Area {
-        x,
-        wide: scale.x(step.to).saturating_sub(x),
-        base: SUM_HIGH,
-        high: share(waited_in(step), top.max(1000)) * SUM_HIGH / 1000,
-    }
-}
-
-fn put_sum_boxes(
-    paper: &mut Paper,
-    scale: Scale,
-    steps: &[Step],
-    top: u64,
-) -> Result<(), AllocError>
-    ensures { OnOk result (Writes paper.old paper.new (spec.sum_boxes scale top steps.now)) }
-{
-    for step in steps {
-        put_box(paper, sum_box(scale, step, top))?;
-    }
-    Ok(())
-}
-
-/// Puts the drawing of how many tasks waited at a time.
-pub(crate) fn put_sum(
-    paper: &mut Paper,
-    scale: Scale,
-    steps: &[Step],
-    height: Height,
-) -> Result<(), AllocError>
-    ensures { OnOk result (Writes paper.old paper.new (spec.sum_drawing scale height steps.now)) }
-{
-    open_drawing(paper, "total", scale, SUM_HIGH)?;
-    put_sum_readings(paper, scale, steps)?;
-    put_sum_words(paper, height)?;
-    put_sum_boxes(paper, scale, steps, height.top)?;
-    paper.put(&[Quote, End, Close(Tag::Path), Close(Tag::Svg)])?;
-    Ok(())
 }
 
 // So many sixths of a time, rounded down.

@@ -6,14 +6,16 @@ ghost use Rattle.tk_page.specs.Courses.{courses_of};
 ghost use Rattle.tk_paper.specs.Pieces.{Writes};
 
 use crate::badges::{put_badges, start_section};
+use crate::blamed::Blamed;
 use crate::figures::{Scale, each, front, share};
 use crate::history::History;
 use crate::idle::put_awaited;
 use crate::oddities::Signs;
+use crate::picture::{Split, put_picture, put_whom_legend, splits_of};
 use crate::ranks::{Rank, ranks_of};
 use crate::resources::put_more;
-use crate::sample::{Sample, Step};
-use crate::strips::{Height, height_of, put_axis, put_strip, put_sum, steps_of};
+use crate::sample::Sample;
+use crate::strips::{Height, height_of, put_axis, put_strip, steps_of};
 use std::alloc::{AllocError, Global};
 use tk_core::TaskRow;
 use tk_ids::TaskKind;
@@ -80,7 +82,7 @@ fn put_controls(paper: &mut Paper) -> Result<(), AllocError>
         Close(Tag::Span),
         Start(Tag::Span),
         Text(
-            "The head of a column sorts by it. Point at a strip to read a step, or press Tab and the arrows.",
+            "The head of a column sorts by it. Point at a strip to read a step, or press Tab and the arrows. Drag over a strip, or hold Shift with the arrows, to choose a span.",
         ),
         Close(Tag::Span),
         Close(Tag::P),
@@ -180,13 +182,15 @@ fn put_height(paper: &mut Paper, height: Height) -> Result<(), AllocError>
 fn put_sum_row(
     paper: &mut Paper,
     scale: Scale,
-    sums: &[Step],
     height: Height,
+    blamed: &[Blamed],
+    splits: &[Split],
 ) -> Result<(), AllocError>
-    ensures { OnOk result (Writes paper.old paper.new (spec.sum_row scale height sums.now)) }
+    ensures { OnOk result (Writes paper.old paper.new (spec.sum_row scale height blamed.now splits.now)) }
 {
     put_height(paper, height)?;
-    put_sum(paper, scale, sums, height)?;
+    put_whom_legend(paper, blamed)?;
+    put_picture(paper, scale, height, blamed, splits)?;
     put_axis(paper, scale.watched())?;
     paper.put(&[
         Close(Tag::Td),
@@ -478,13 +482,14 @@ fn put_caption(paper: &mut Paper, watched: u64) -> Result<(), AllocError>
 fn put_table_head(
     paper: &mut Paper,
     scale: Scale,
-    sums: &[Step],
     height: Height,
+    blamed: &[Blamed],
+    splits: &[Split],
 ) -> Result<(), AllocError>
-    ensures { OnOk result (Writes paper.old paper.new (spec.table_head scale height sums.now)) }
+    ensures { OnOk result (Writes paper.old paper.new (spec.table_head scale height blamed.now splits.now)) }
 {
     put_caption(paper, scale.watched())?;
-    put_sum_row(paper, scale, sums, height)?;
+    put_sum_row(paper, scale, height, blamed, splits)?;
     put_first_columns(paper)?;
     put_last_columns(paper)?;
     paper.put(&[Close(Tag::Thead), Start(Tag::Tbody)])?;
@@ -497,16 +502,18 @@ fn put_table(
     scale: Scale,
     signs: &Signs,
     history: &History,
+    blamed: &[Blamed],
     tables: &Tables,
 ) -> Result<(), AllocError>
-    ensures { OnOk result (spec.WritesTable scale signs.now (courses_of history.now) tables.now paper.old paper.new) }
+    ensures { OnOk result (spec.WritesTable scale signs.now (courses_of history.now) blamed.now tables.now paper.old paper.new) }
 {
     let ranks = ranks_of(alloc, scale, tables, signs)?;
     let shown = front(ranks.as_slice(), TASKS);
     let sums = steps_of(alloc, scale.start, history.sums(), history.last())?;
     let list = sums.as_slice();
     let height = height_of(list);
-    put_table_head(paper, scale, list, height)?;
+    let splits = splits_of(alloc, blamed, list)?;
+    put_table_head(paper, scale, height, blamed, splits.as_slice())?;
     put_rows(paper, alloc, scale, signs, history, tables, shown)?;
     paper.put(&[Close(Tag::Tbody), Close(Tag::Table), Close(Tag::Div)])?;
     Ok(())
@@ -530,17 +537,18 @@ pub(crate) fn put_tasks(
     scale: Scale,
     signs: &Signs,
     history: &History,
+    blamed: &[Blamed],
     tables: &Tables,
 ) -> Result<(), AllocError>
-    ensures { OnOk result (spec.WritesTasks scale signs.now (courses_of history.now) tables.now paper.old paper.new) }
+    ensures { OnOk result (spec.WritesTasks scale signs.now (courses_of history.now) blamed.now tables.now paper.old paper.new) }
 {
     put_tasks_head(paper)?;
-    put_table(paper, alloc, scale, signs, history, tables)?;
+    put_table(paper, alloc, scale, signs, history, blamed, tables)?;
     put_more(
         paper,
         tables.task_count(),
         TASKS,
-        " tasks more, which ran and waited less",
+        " tasks more, which have no row",
     )?;
     paper.put(&[Close(Tag::Section)])?;
     Ok(())

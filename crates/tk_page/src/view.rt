@@ -1,17 +1,18 @@
 //! The page of a stream, once it was read to its end.
-ghost use Rattle.std.specs.Prelude.{◌≡◌, ◌++◌, [], List, map, IfOk, IfErr, IfSome};
-ghost use Rattle.tk_odd.specs.Diagnosis.{standing_of};
-ghost use Rattle.tk_odd.specs.Findings.{told_of, told};
-ghost use Rattle.tk_odd.specs.Inner.{Follows};
+ghost use Rattle.std.specs.Prelude.{◌≡◌, ◌++◌, [], List, map, IfOk, IfErr, IfSome, true};
+ghost use Rattle.tk_odd.specs.Findings.{told};
+ghost use Rattle.tk_client.specs.Changes.{Timed};
+ghost use Rattle.tk_reading.specs.Shown.{tables_of};
 ghost use Rattle.tk_reading.specs.Taken.{first};
 ghost use Rattle.tk_report.specs.Views.{IsOfWriter};
 ghost use Rattle.tk_page.specs.Courses.{courses_of};
 ghost use Rattle.tk_page.specs.Kept.{Tells};
-ghost use Rattle.tk_page.specs.Pages.{IsDrawn, Pages, PagesWith};
-ghost use Rattle.tk_sites.specs.Inner.{Follows as AddsUp};
-ghost use Rattle.tk_sites.specs.Sites.{sites_of};
-ghost use Rattle.tk_stream.specs.Tables.{TablesView};
+ghost use Rattle.tk_page.specs.Charges.{Blames};
+ghost use Rattle.tk_page.specs.Pages.{IsDrawn, IsDrawnAfter, Pages, PagesWith};
+ghost use Rattle.tk_sites.specs.Inner.{Follows as AddsUp, FollowsTimes};
 
+use crate::blame::Blame;
+use crate::blamed::{Blamed, blamed_of};
 use crate::drawing::{put_page, scale_of};
 use crate::frame::{HEAD, TAIL};
 use crate::history::History;
@@ -20,18 +21,26 @@ use std::alloc::{AllocError, Global};
 use std::io::{Read, Write};
 use tk_client::{Client, Lints};
 use tk_fault::AppFault;
-use tk_odd::{Diagnosis, Found, Limits};
+use tk_odd::{Found, Held, Limits};
 use tk_paper::Paper;
 use tk_reading::{Both, MAX_LINE, read_stream};
-use tk_series::Limited;
-use tk_sites::{Sites, Sums};
+use tk_series::{Limited, Series};
+use tk_sites::{SiteTimes, Sites, Sums, TimedSites};
 use tk_stream::{Tables, send};
+
+// What watches lines: the courses of tasks, places with their histograms, and who holds up whom.
+type Watched = Both<Both<History, Both<Sites, TimedSites>>, Blame>;
 
 // How long a poll is that is a long one, where nothing is said: 100 ms.
 const LONG_POLL: u64 = 100_000_000;
 
-// Three texts, one after the other.
-fn joined(alloc: Global, front: &str, inner: &[u8], end: &str) -> Result<Vec<u8>, AllocError>
+/// Three texts, one after the other.
+pub(crate) fn joined(
+    alloc: Global,
+    front: &str,
+    inner: &[u8],
+    end: &str,
+) -> Result<Vec<u8>, AllocError>
     ensures { IfOk result (λ text. text.items ≡ (front.now ++ inner.now) ++ end.now) }
 {
     let mut text = Vec::from_slice(alloc, front.as_bytes())?;
@@ -40,47 +49,58 @@ fn joined(alloc: Global, front: &str, inner: &[u8], end: &str) -> Result<Vec<u8>
     Ok(text)
 }
 
-// The page of tables, their history, their places and what is odd.
+// The page of tables, their history, who waited for whom, their places and what is odd.
 fn page_of(
     alloc: Global,
     title: &str,
     history: &History,
+    blamed: &[Blamed],
+    times: &Option<Limited<SiteTimes>>,
+    held: &Series<Held>,
     sites: &Limited<Sums>,
     tables: &Tables,
     limits: Limits,
     findings: Vec<Found>,
 ) -> Result<Vec<u8>, AllocError>
-    ensures { IfOk result (λ text. IsDrawn title.now limits (map told findings.items) (courses_of history.now) sites.now tables.now text.items) }
+    ensures { IfOk result (λ text. IsDrawn title.now limits (map told findings.items) (courses_of history.now) blamed.now times.now held.now sites.now tables.now text.items) }
 {
     let signs = Signs::of(tables, limits, findings);
     let scale = scale_of(history, tables);
     let mut paper = Paper::new(alloc);
     put_page(
-        &mut paper, alloc, title, scale, &signs, history, sites, tables,
+        &mut paper, alloc, title, scale, &signs, history, blamed, times, held, sites, tables,
     )?;
     let inner = paper.into_bytes();
     let text = joined(alloc, HEAD, inner.as_slice(), TAIL)?;
     Ok(text)
 }
 
-// The page of tables, after lines that their history, their places and their diagnosis have seen.
+// The page of a client's tables, after lines that their history, their places and their diagnosis have seen.
 fn page_after(
     alloc: Global,
     title: &str,
-    seen: &Both<Both<History, Sites>, Diagnosis>,
-    tables: &Tables,
+    seen: &Watched,
+    client: &Client,
     limits: Limits,
 ) -> Result<Vec<u8>, AllocError>
-    ensures { (shown : List TablesView) → Follows shown seen.now.second → seen.now.second.limits ≡ limits → AddsUp shown seen.now.first.second
-        → IfOk result (λ text. IsDrawn title.now limits (told_of limits (standing_of limits shown) tables.now) (courses_of seen.now.first.first)
-        (sites_of shown tables.now []) tables.now text.items) }
+    ensures { (lines : List Timed) → Blames (tables_of lines) seen.now.second → seen.now.second.diagnosis.limits ≡ limits
+        → AddsUp (tables_of lines) seen.now.first.second.first → FollowsTimes true lines seen.now.first.second.second
+        → IfOk result (λ text. IsDrawnAfter title.now limits lines (courses_of seen.now.first.first) client.now.start text.items) }
 {
-    let findings = seen.second.findings_with_victims(alloc, tables)?;
-    let sites = seen.first.second.sums(tables, &[])?;
+    let tables = client.tables();
+    let diagnosis = &seen.second.diagnosis;
+    let findings = diagnosis.findings_with_victims(alloc, tables)?;
+    let held = diagnosis.held();
+    let blamed = blamed_of(alloc, &seen.second, held, tables.now())?;
+    let sites = seen.first.second.first.sums(tables, &[])?;
+    let times = seen.first.second.second.times(tables, client.times())?;
     page_of(
         alloc,
         title,
         &seen.first.first,
+        blamed.as_slice(),
+        &times,
+        held,
         &sites,
         tables,
         limits,
@@ -89,19 +109,22 @@ fn page_after(
 }
 
 // What watches lines, before the first. A box, as it is dropped wherever the reading ends.
-fn nothing_seen(alloc: Global, limits: Limits) -> Option<Box<Both<Both<History, Sites>, Diagnosis>>>
-    ensures { IfSome result (λ seen. ((Tells [] seen.value.first.first × AddsUp [] seen.value.first.second) × Follows [] seen.value.second)
-        × (seen.value.second.limits ≡ limits)) }
+fn nothing_seen(alloc: Global, limits: Limits) -> Option<Box<Watched>>
+    ensures { IfSome result (λ seen. ((Tells [] seen.value.first.first × (AddsUp [] seen.value.first.second.first × FollowsTimes true [] seen.value.first.second.second))
+        × Blames [] seen.value.second) × (seen.value.second.diagnosis.limits ≡ limits)) }
 {
-    let Ok(diagnosis) = Diagnosis::new(alloc, limits) else {
+    let Ok(blame) = Blame::new(alloc, limits) else {
         return None;
     };
     let seen = Both {
         first: Both {
             first: History::new(alloc),
-            second: Sites::new(alloc),
+            second: Both {
+                first: Sites::new(alloc),
+                second: TimedSites::new(alloc, true),
+            },
         },
-        second: diagnosis,
+        second: blame,
     };
     match Box::new(alloc, seen) {
         Ok(seen) => Some(seen),
@@ -131,7 +154,7 @@ fn view_by<R: Read, W: Write>(
         return Err(AppFault::Memory);
     };
     let warnings = list.as_slice();
-    let Ok(text) = page_after(alloc, title, &seen, client.tables(), limits) else {
+    let Ok(text) = page_after(alloc, title, &seen, client, limits) else {
         return Err(AppFault::Memory);
     };
     match send(writer, text.as_slice()) {

@@ -84,7 +84,7 @@ fn a_row_has_the_numbers_of_its_task(rt: HostRuntime) {
 fn a_strip_has_the_numbers_of_its_steps(rt: HostRuntime) {
     let strip = "preserveAspectRatio=\"none\" data-steps=\"0,200,500,9,4;\" role=\"img\"";
     assert!(rt; shows(rt.alloc(), POLLED, strip, "data-steps=\"\""));
-    let all = "preserveAspectRatio=\"none\" data-steps=\"0,500;\" role=\"img\"";
+    let all = "preserveAspectRatio=\"none\" data-steps=\"0,500,0,0;\" role=\"img\"";
     assert!(rt; shows(rt.alloc(), POLLED, all, "data-steps=\"\""));
 }
 
@@ -146,7 +146,7 @@ fn digits_stand_in_groups_of_three(rt: HostRuntime) {
 #[test]
 fn a_stream_without_lines_has_a_page_without_items(rt: HostRuntime) {
     let none =
-        "<b>0</b> tasks · <b>0</b> resources · <b>0</b> operations · <b>0</b> lines over <b>0 ns</b></p>";
+        "<b>0</b> tasks · <b>0</b> resources · <b>0</b> operations · <b>0</b> lines over <b data-v=\"0\">0 ns</b></p>";
     let no_line = "<p class=\"now\">No line came: this page knows nothing of any task.</p>";
     assert!(rt; shows(rt.alloc(), b"", none, "<tr id="));
     assert!(rt; shows(rt.alloc(), b"", no_line, "class=\"count\""));

@@ -13,7 +13,8 @@ use Rattle.tk_stream.specs.declared.tables.task.Task.{Task}
 use Rattle.tk_client.specs.declared.any_warnings.AnyWarning.{AnyWarning}
 use Rattle.tk_client.specs.Changes.{tasks_beside}
 use Rattle.tk_sites.specs.Laws.{AreSteady, sites_after, stays_at}
-use Rattle.tk_sites.specs.Site.{room, site_of}
+use Rattle.tk_odd.specs.Places.{place_of}
+use Rattle.tk_sites.specs.Site.{room}
 use Rattle.tk_reading.specs.Shown.{last_shown}
 use Rattle.tk_sites.specs.Sites.{came_entry, changes, changes_since, entries_of, left_entry, there_entry, warned_entries}
 use Rattle.tk_sites.specs.Sums.{plus, warned}
@@ -47,26 +48,26 @@ all_joined p (x ∷ xs) ys a b =
 
 -- the place of a task is among these
 abbrev pub is_placed : List (List ℕ) → Task → Bool
-is_placed names t = is_seen names (site_of t.info)
+is_placed names t = is_seen names (place_of t.info)
 
 -- so it is of one that is found
-found_placed : (names : List (List ℕ)) (id : ℕ) (tasks : List Task) (s : Task) → list_all (is_placed names) tasks ≡ true → task_with id tasks ≡ Some s → is_seen names (site_of s.info) ≡ true
+found_placed : (names : List (List ℕ)) (id : ℕ) (tasks : List Task) (s : Task) → list_all (is_placed names) tasks ≡ true → task_with id tasks ≡ Some s → is_seen names (place_of s.info) ≡ true
 found_placed names id [] s all found = absurd (cc)
 found_placed names id (t ∷ tasks) s all found = by (id == t.info.id) found (found_placed names id tasks s parts.1)
   where
-    parts : (is_seen names (site_of t.info) ≡ true) × (list_all (is_placed names) tasks ≡ true)
-    parts = both (is_seen names (site_of t.info)) (list_all (is_placed names) tasks) all
+    parts : (is_seen names (place_of t.info) ≡ true) × (list_all (is_placed names) tasks ≡ true)
+    parts = both (is_seen names (place_of t.info)) (list_all (is_placed names) tasks) all
 
-    by : (b : Bool) → cond b (Some t) (find (λ (u : Task). id == u.info.id) tasks) ≡ Some s → (find (λ (u : Task). id == u.info.id) tasks ≡ Some s → is_seen names (site_of s.info) ≡ true)
-        → is_seen names (site_of s.info) ≡ true
+    by : (b : Bool) → cond b (Some t) (find (λ (u : Task). id == u.info.id) tasks) ≡ Some s → (find (λ (u : Task). id == u.info.id) tasks ≡ Some s → is_seen names (place_of s.info) ≡ true)
+        → is_seen names (place_of s.info) ≡ true
     by true e more =
         let same : t ≡ s = cc in
-        subst (λ (u : Task). is_seen names (site_of u.info) ≡ true) same parts.0
+        subst (λ (u : Task). is_seen names (place_of u.info) ≡ true) same parts.0
     by false e more = more e
 
 -- a task was there, or it is among the entries of those that came
 abbrev is_known : TablesView → List (List ℕ × Sums) → Task → Bool
-is_known old entries t = is_some (task_with t.info.id old.tasks) || list_any (λ (x : List ℕ × Sums). bytes_eq (site_of t.info) x.0) entries
+is_known old entries t = is_some (task_with t.info.id old.tasks) || list_any (λ (x : List ℕ × Sums). bytes_eq (place_of t.info) x.0) entries
 
 all_known : (old : TablesView) (more : List (List ℕ × Sums)) (tasks : List Task)
     → list_all (is_known old (map came_entry (filter (λ (t : Task). not (is_some (task_with t.info.id old.tasks))) tasks) ++ more)) tasks ≡ true
@@ -77,23 +78,23 @@ all_known old more (t ∷ tasks) = by (is_some (task_with t.info.id old.tasks)) 
     entries = map came_entry (filter (λ (u : Task). not (is_some (task_with u.info.id old.tasks))) tasks) ++ more
 
     one_more : (u : Task) → is_known old entries u ≡ true → is_known old (came_entry t ∷ entries) u ≡ true
-    one_more u = at (is_some (task_with u.info.id old.tasks)) (bytes_eq (site_of u.info) (site_of t.info))
+    one_more u = at (is_some (task_with u.info.id old.tasks)) (bytes_eq (place_of u.info) (place_of t.info))
       where
-        at : (a b : Bool) → (a || list_any (λ (x : List ℕ × Sums). bytes_eq (site_of u.info) x.0) entries) ≡ true → (a || (b || list_any (λ (x : List ℕ × Sums). bytes_eq (site_of u.info) x.0) entries)) ≡ true
+        at : (a b : Bool) → (a || list_any (λ (x : List ℕ × Sums). bytes_eq (place_of u.info) x.0) entries) ≡ true → (a || (b || list_any (λ (x : List ℕ × Sums). bytes_eq (place_of u.info) x.0) entries)) ≡ true
         at true b h = refl
         at false true h = refl
         at false false h = h
 
     by : (b : Bool) → is_some (task_with t.info.id old.tasks) ≡ b → list_all (is_known old entries) tasks ≡ true
         → list_all (is_known old (map came_entry (cond (not b) (t ∷ filter (λ (u : Task). not (is_some (task_with u.info.id old.tasks))) tasks) (filter (λ (u : Task). not (is_some (task_with u.info.id old.tasks))) tasks)) ++ more)) (t ∷ tasks) ≡ true
-    by true e rest = ap₂ (λ a b. a && b) (ap (λ a. a || list_any (λ (x : List ℕ × Sums). bytes_eq (site_of t.info) x.0) entries) e) rest
+    by true e rest = ap₂ (λ a b. a && b) (ap (λ a. a || list_any (λ (x : List ℕ × Sums). bytes_eq (place_of t.info) x.0) entries) e) rest
     by false e rest =
-        ap₂ (λ a b. a && b) (last (is_some (task_with t.info.id old.tasks)) (bytes_eq (site_of t.info) (site_of t.info)) (nat_list_eq_equiv.refl (site_of t.info)))
+        ap₂ (λ a b. a && b) (last (is_some (task_with t.info.id old.tasks)) (bytes_eq (place_of t.info) (place_of t.info)) (nat_list_eq_equiv.refl (place_of t.info)))
         (all_by (is_known old entries) (is_known old (came_entry t ∷ entries)) one_more tasks rest)
       where
-        last : (a b : Bool) → b ≡ true → (a || (b || list_any (λ (x : List ℕ × Sums). bytes_eq (site_of t.info) x.0) entries)) ≡ true
+        last : (a b : Bool) → b ≡ true → (a || (b || list_any (λ (x : List ℕ × Sums). bytes_eq (place_of t.info) x.0) entries)) ≡ true
         last true b h = refl
-        last false b h = ap (λ c. c || list_any (λ (x : List ℕ × Sums). bytes_eq (site_of t.info) x.0) entries) h
+        last false b h = ap (λ c. c || list_any (λ (x : List ℕ × Sums). bytes_eq (place_of t.info) x.0) entries) h
 
 -- after a line the place of each task is there, where those of the tasks before it are
 placed_next : (before : List (List ℕ × Sums)) (old new : TablesView) → list_all (is_placed (names_of (series_of plus before))) old.tasks ≡ true
@@ -105,12 +106,12 @@ placed_next before old new placed steady =
     one : (t : Task) → is_known old (changes old new) t ≡ true → stays_at old t ≡ true → is_placed (names_of (series_of plus (before ++ changes old new))) t ≡ true
     one t known stays = by (task_with t.info.id old.tasks) refl known stays
       where
-        by : (o : Option Task) → task_with t.info.id old.tasks ≡ o → (is_some o || list_any (λ (x : List ℕ × Sums). bytes_eq (site_of t.info) x.0) (changes old new)) ≡ true
-            → option_map_or (λ (s : Task). bytes_eq (site_of t.info) (site_of s.info)) o true ≡ true → is_seen (names_of (series_of plus (before ++ changes old new))) (site_of t.info) ≡ true
-        by None e k h = name_added plus before (changes old new) (site_of t.info) k
+        by : (o : Option Task) → task_with t.info.id old.tasks ≡ o → (is_some o || list_any (λ (x : List ℕ × Sums). bytes_eq (place_of t.info) x.0) (changes old new)) ≡ true
+            → option_map_or (λ (s : Task). bytes_eq (place_of t.info) (place_of s.info)) o true ≡ true → is_seen (names_of (series_of plus (before ++ changes old new))) (place_of t.info) ≡ true
+        by None e k h = name_added plus before (changes old new) (place_of t.info) k
         by (Some s) e k h =
-            still_seen (names_of (series_of plus before)) (names_of (series_of plus (before ++ changes old new))) (site_of t.info) (names_front plus before (changes old new))
-            (list_any_congr nat_list_eq_equiv (site_of t.info) (site_of s.info) (names_of (series_of plus before)) h ∙ found_placed (names_of (series_of plus before)) t.info.id old.tasks s placed e)
+            still_seen (names_of (series_of plus before)) (names_of (series_of plus (before ++ changes old new))) (place_of t.info) (names_front plus before (changes old new))
+            (list_any_congr nat_list_eq_equiv (place_of t.info) (place_of s.info) (names_of (series_of plus before)) h ∙ found_placed (names_of (series_of plus before)) t.info.id old.tasks s placed e)
 
 -- after many
 placed_all : (before : List (List ℕ × Sums)) (old : TablesView) (shown : List TablesView) → list_all (is_placed (names_of (series_of plus before))) old.tasks ≡ true
@@ -124,7 +125,7 @@ placed_all before old (new ∷ shown) placed steady =
 there_seen : (ns : List (List ℕ)) (tasks : List Task) → list_all (is_placed ns) tasks ≡ true → list_all (λ (x : List ℕ × Sums). is_seen ns x.0) (map there_entry tasks) ≡ true
 there_seen ns [] all = refl
 there_seen ns (t ∷ tasks) all =
-    let parts = both (is_seen ns (site_of t.info)) (list_all (is_placed ns) tasks) all in
+    let parts = both (is_seen ns (place_of t.info)) (list_all (is_placed ns) tasks) all in
     ap₂ (λ a b. a && b) parts.0 (there_seen ns tasks parts.1)
 
 pub warned_seen : (ns : List (List ℕ)) (tables : TablesView) (ws : List AnyWarning) → list_all (is_placed ns) tables.tasks ≡ true
@@ -133,7 +134,7 @@ warned_seen ns tables [] all = refl
 warned_seen ns tables (w ∷ ws) all =
     all_joined (λ (x : List ℕ × Sums). is_seen ns x.0) (warned_entries tables w) (flat_map (warned_entries tables) ws) (by (task_with (warned_task w) tables.tasks) refl) (warned_seen ns tables ws all)
   where
-    by : (o : Option Task) → task_with (warned_task w) tables.tasks ≡ o → list_all (λ (x : List ℕ × Sums). is_seen ns x.0) (option_map_or (λ (t : Task). (site_of t.info, warned (one_warning w)) ∷ []) o []) ≡ true
+    by : (o : Option Task) → task_with (warned_task w) tables.tasks ≡ o → list_all (λ (x : List ℕ × Sums). is_seen ns x.0) (option_map_or (λ (t : Task). (place_of t.info, warned (one_warning w)) ∷ []) o []) ≡ true
     by None e = refl
     by (Some t) e = ap (λ b. b && true) (found_placed ns (warned_task w) tables.tasks t all e)
 

@@ -14,7 +14,8 @@ use Rattle.tk_reading.specs.Shown.{tables_of}
 use Rattle.tk_series.specs.Limited.{names_of}
 use Rattle.tk_series.specs.Series.{is_seen, series_after, series_of, values_at}
 use Rattle.tk_series.proofs.NameLemmas.{name_added, names_stay}
-use Rattle.tk_sites.specs.Site.{room, site_of}
+use Rattle.tk_odd.specs.Places.{place_of}
+use Rattle.tk_sites.specs.Site.{room}
 use Rattle.tk_sites.specs.Sites.{came_entry, changes, changes_since, entries_of, left_entry, sites_of, sites_until, there_entry, until_entry, warned_entries}
 use Rattle.tk_sites.specs.Sums.{plus}
 use Rattle.tk_sites.specs.TimedSites.{came_times, left_times, there_times, timed_changes, timed_changes_since, timed_sites, who_left}
@@ -54,19 +55,19 @@ module _ {V : Type 0} (add : V → V → V) where
 
 came-names : (ts : List Task) → names_of (map came_times ts) ≡ names_of (map came_entry ts)
 came-names [] = refl
-came-names (t ∷ ts) = ap (λ ns. site_of t.info ∷ ns) (came-names ts)
+came-names (t ∷ ts) = ap (λ ns. place_of t.info ∷ ns) (came-names ts)
 
 left-names : (times : List TaskTimes) (ts : List Task) → names_of (map left_times (map (left_as times) ts)) ≡ names_of (map left_entry ts)
 left-names times [] = refl
-left-names times (t ∷ ts) = ap (λ ns. site_of t.info ∷ ns) (left-names times ts)
+left-names times (t ∷ ts) = ap (λ ns. place_of t.info ∷ ns) (left-names times ts)
 
 there-names : (times : List TaskTimes) (ts : List Task) → names_of (map (there_times times) ts) ≡ names_of (map there_entry ts)
 there-names times [] = refl
-there-names times (t ∷ ts) = ap (λ ns. site_of t.info ∷ ns) (there-names times ts)
+there-names times (t ∷ ts) = ap (λ ns. place_of t.info ∷ ns) (there-names times ts)
 
 until-names : (now : ℕ) (ts : List Task) → names_of (map (until_entry now) ts) ≡ names_of (map there_entry ts)
 until-names now [] = refl
-until-names now (t ∷ ts) = ap (λ ns. site_of t.info ∷ ns) (until-names now ts)
+until-names now (t ∷ ts) = ap (λ ns. place_of t.info ∷ ns) (until-names now ts)
 
 names-both : {V : Type 0} (xs ys : List (List ℕ × V)) → names_of (xs ++ ys) ≡ names_of xs ++ names_of ys
 names-both {V} xs ys = map-append (λ (x : List ℕ × V). x.0) xs ys
@@ -91,7 +92,7 @@ own_placed before [] = refl
 own_placed before (t ∷ tasks) =
     let names = names_of (series_of plus (before ++ map there_entry (t ∷ tasks))) in
     ap₂ (λ a b. a && b)
-    (name_added plus before (map there_entry (t ∷ tasks)) (site_of t.info) (ap (λ b. b || list_any (λ (x : List ℕ × Sums). bytes_eq (site_of t.info) x.0) (map there_entry tasks)) (nat_list_eq_equiv.refl (site_of t.info))))
+    (name_added plus before (map there_entry (t ∷ tasks)) (place_of t.info) (ap (λ b. b || list_any (λ (x : List ℕ × Sums). bytes_eq (place_of t.info) x.0) (map there_entry tasks)) (nat_list_eq_equiv.refl (place_of t.info))))
     (subst (λ xs. list_all (is_placed (names_of (series_of plus xs))) tasks ≡ true) (append_assoc before (there_entry t ∷ []) (map there_entry tasks)) (own_placed (before ++ there_entry t ∷ []) tasks))
 
 -- whatever is added up of what came, what left and what is there has the places of sums, in their order

@@ -11,7 +11,7 @@ use Rattle.tk_series.specs.Totals.{AddsUp}
 use Rattle.tk_client.specs.Changes.{tasks_beside}
 use Rattle.tk_sites.specs.Laws.{AddsUpRows, most, over_all, tasks_came, tasks_left}
 use Rattle.tk_sites.specs.Lines.{listed}
-use Rattle.tk_sites.specs.Site.{site_of}
+use Rattle.tk_odd.specs.Places.{place_of}
 use Rattle.tk_sites.specs.Sites.{came_entry, changes, changes_since, entries_of, left_entry, sites_of, there_entry, warned_entries}
 use Rattle.tk_sites.specs.Sums.{came, left, plus, there, warned}
 use Rattle.tk_sites.specs.Warned.{one_warning, warned_task}
@@ -75,10 +75,10 @@ module _ (number : Sums → ℕ) where
       sum_by-append (λ (y : List ℕ × Sums). number y.1) (warned_entries tables w) (flat_map (warned_entries tables) ws)
       ∙ ap₂ (λ a b. a + b) (by (task_with (warned_task w) tables.tasks)) (over-warned none tables ws)
     where
-      by : (o : Option Task) → over_all number (option_map_or (λ (t : Task). (site_of t.info, warned (one_warning w)) ∷ []) o []) ≡ 0
+      by : (o : Option Task) → over_all number (option_map_or (λ (t : Task). (place_of t.info, warned (one_warning w)) ∷ []) o []) ≡ 0
       by None = refl
       by (Some t) =
-          let one = sum_by-cons (λ (y : List ℕ × Sums). number y.1) (site_of t.info, warned (one_warning w)) [] in
+          let one = sum_by-cons (λ (y : List ℕ × Sums). number y.1) (place_of t.info, warned (one_warning w)) [] in
           let zero_is = none (one_warning w) in
           omega (arith, one, zero_is)
 

@@ -10,7 +10,7 @@ use Rattle.tk_client.specs.Changes.{tasks_beside}
 use Rattle.tk_client.specs.declared.any_warnings.AnyWarning.{AnyWarning}
 use Rattle.tk_series.specs.Limited.{LimitedView}
 use Rattle.tk_series.specs.Totals.{AddsUp}
-use Rattle.tk_sites.specs.Site.{site_of}
+use Rattle.tk_odd.specs.Places.{place_of}
 use Rattle.tk_reading.specs.Shown.{last_shown}
 use Rattle.tk_sites.specs.Sites.{sites_of}
 use Rattle.tk_sites.specs.Sums.{came, left, plus, there, warned}
@@ -53,7 +53,7 @@ sites_after shown warnings = sites_of shown (last_shown empty_tables shown) warn
 
 -- a task is of the place that it had in tables, if it was there
 abbrev pub stays_at : TablesView → Task → Bool
-stays_at old t = option_map_or (λ (s : Task). bytes_eq (site_of t.info) (site_of s.info)) (task_with t.info.id old.tasks) true
+stays_at old t = option_map_or (λ (s : Task). bytes_eq (place_of t.info) (place_of s.info)) (task_with t.info.id old.tasks) true
 
 -- no task changes its place while it is there: only a wrong writer tells an id with another place
 abbrev pub AreSteady : TablesView → List TablesView → Type 0

@@ -1,4 +1,4 @@
--- A place: where tasks are made, and as what
+-- How many places stand by themselves
 pub mod Site
 -- How many tasks of a place are warned of
 pub mod Warned

@@ -9,7 +9,7 @@ use Rattle.tk_stream.specs.Tables.{TablesView}
 use Rattle.tk_stream.specs.Times.{TaskTimes}
 use Rattle.tk_stream.specs.declared.tables.task.Task.{Task}
 use Rattle.tk_sites.specs.Lines.{first_line, listed, sites_text, timed_line, warned_lines}
-use Rattle.tk_sites.specs.Site.{site_of}
+use Rattle.tk_odd.specs.Places.{place_of}
 use Rattle.tk_sites.specs.declared.sites_view.SitesView.{SitesView}
 use Rattle.tk_sites.specs.declared.sites_view.SitesView.TheVariants.{All, One}
 use Rattle.tk_sites.specs.declared.sums.Sums.{Sums}
@@ -17,7 +17,7 @@ use Rattle.tk_sites.specs.declared.times.SiteTimes.{SiteTimes}
 
 -- whether a task is of the place at an index among those that stand by themselves; past them, whether it is of none of these
 abbrev pub is_of : List (List ℕ × Sums) → ℕ → Task → Bool
-is_of own index t = option_map_or (λ x. bytes_eq (site_of t.info) x.0) (slice_get own index) (not (is_seen (names_of own) (site_of t.info)))
+is_of own index t = option_map_or (λ x. bytes_eq (place_of t.info) x.0) (slice_get own index) (not (is_seen (names_of own) (place_of t.info)))
 
 -- the lines of a task where this holds of it, and else nothing. Its own histograms stand below it where they are shown
 abbrev pub lines_if : (Task → Bool) → Bool → List TaskTimes → Task → List ℕ

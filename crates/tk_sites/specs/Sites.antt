@@ -6,28 +6,29 @@ use Rattle.tk_stream.specs.declared.tables.task.Task.{Task}
 use Rattle.tk_client.specs.Changes.{tasks_beside}
 use Rattle.tk_client.specs.declared.any_warnings.AnyWarning.{AnyWarning}
 use Rattle.tk_series.specs.Limited.{LimitedView, limited}
-use Rattle.tk_sites.specs.Site.{room, site_of}
+use Rattle.tk_odd.specs.Places.{place_of}
+use Rattle.tk_sites.specs.Site.{room}
 use Rattle.tk_sites.specs.Sums.{came, left, plus, there, there_until, warned}
 use Rattle.tk_sites.specs.Warned.{one_warning, warned_task}
 use Rattle.tk_sites.specs.declared.sums.Sums.{Sums}
 
 -- what a place has of a task that came, of one that left, and of one that is there
 abbrev pub came_entry : Task → List ℕ × Sums
-came_entry t = (site_of t.info, came)
+came_entry t = (place_of t.info, came)
 
 abbrev pub left_entry : Task → List ℕ × Sums
-left_entry t = (site_of t.info, left t.row)
+left_entry t = (place_of t.info, left t.row)
 
 abbrev pub there_entry : Task → List ℕ × Sums
-there_entry t = (site_of t.info, there t.row)
+there_entry t = (place_of t.info, there t.row)
 
 -- of one that is there, with what lasts at a moment
 abbrev pub until_entry : ℕ → Task → List ℕ × Sums
-until_entry now t = (site_of t.info, there_until now t.row)
+until_entry now t = (place_of t.info, there_until now t.row)
 
 -- and of a warning about a task of these tables
 abbrev pub warned_entries : TablesView → AnyWarning → List (List ℕ × Sums)
-warned_entries tables w = option_map_or (λ (t : Task). (site_of t.info, warned (one_warning w)) ∷ []) (task_with (warned_task w) tables.tasks) []
+warned_entries tables w = option_map_or (λ (t : Task). (place_of t.info, warned (one_warning w)) ∷ []) (task_with (warned_task w) tables.tasks) []
 
 -- what came and left from tables to the next
 abbrev pub changes : TablesView → TablesView → List (List ℕ × Sums)

@@ -7,7 +7,8 @@ use Rattle.tk_stream.specs.declared.tables.times.PollTimes.{PollTimes}
 use Rattle.tk_client.specs.Changes.{Timed, left_as, tasks_beside, untimed}
 use Rattle.tk_client.specs.declared.change.LeftTask.{LeftTask}
 use Rattle.tk_series.specs.Limited.{LimitedView, limited}
-use Rattle.tk_sites.specs.Site.{room, site_of}
+use Rattle.tk_odd.specs.Places.{place_of}
+use Rattle.tk_sites.specs.Site.{room}
 use Rattle.tk_sites.specs.Times.{plus_times, times_of, untold}
 use Rattle.tk_sites.specs.declared.times.SiteTimes.{SiteTimes}
 
@@ -17,13 +18,13 @@ times_with times id = option_map (λ (t : TaskTimes). t.1) (item_with times_id i
 
 -- what a place has of a task that came, of one that left, and of one that is there
 abbrev pub came_times : Task → List ℕ × SiteTimes
-came_times t = (site_of t.info, untold)
+came_times t = (place_of t.info, untold)
 
 abbrev pub left_times : LeftTask → List ℕ × SiteTimes
-left_times left = (site_of left.task.info, times_of left.times)
+left_times left = (place_of left.task.info, times_of left.times)
 
 abbrev pub there_times : List TaskTimes → Task → List ℕ × SiteTimes
-there_times times t = (site_of t.info, times_of (times_with times t.info.id))
+there_times times t = (place_of t.info, times_of (times_with times t.info.id))
 
 -- the tasks that left from tables and histograms to the next, each as it was last shown
 abbrev pub who_left : Timed → Timed → List LeftTask

@@ -5,18 +5,19 @@ ghost use Rattle.tk_stream.specs.Tables.{task_id, task_with};
 ghost use Rattle.tk_stream.specs.declared.tables.task.Task.{Task as TaskView};
 ghost use Rattle.tk_series.specs.Limited.{limited, with_one};
 ghost use Rattle.tk_sites.specs.Adding.{AreThere, left_as_shown};
-ghost use Rattle.tk_sites.specs.Site.{room, site_of as site};
+ghost use Rattle.tk_odd.specs.Places.{place_of as site};
+ghost use Rattle.tk_sites.specs.Site.{room};
 ghost use Rattle.tk_sites.specs.Sites as spec;
 ghost use Rattle.tk_sites.specs.Sums as sums;
 ghost use Rattle.tk_sites.specs.Warned.{one_warning, warned_task as task_of};
 ghost use Rattle.tk_sites.specs.declared.sums.Sums.{Sums as SumsView};
 
-use crate::site::site_of;
 use crate::sums::{Sums, left, there, there_until, warned};
 use crate::warned::{Warnings, warned_task};
 use std::alloc::{AllocError, Global};
 use tk_client::{AnyWarning, LeftTask};
 use tk_ids::TaskId;
+use tk_odd::place_of;
 use tk_series::{Added, Limited};
 use tk_stream::{Tables, Task};
 
@@ -31,7 +32,7 @@ fn add_came_one<V: Added>(
         (λ t. with_one V.plus (site t.info) came sites.old) (task_with id tables.now.tasks) sites.old) }
 {
     match tables.task(id) {
-        Some(task) => sites.add(site_of(alloc, &task.info)?, came),
+        Some(task) => sites.add(place_of(alloc, &task.info)?, came),
         None => Ok(()),
     }
 }
@@ -57,7 +58,7 @@ pub(crate) fn add_came<V: Added>(
 fn add_left_one(sites: &mut Limited<Sums>, alloc: Global, task: &Task) -> Result<(), AllocError>
     ensures { OnOk result (sites.new ≡ with_one sums.plus (site task.now.info) (sums.left task.now.row) sites.old) }
 {
-    sites.add(site_of(alloc, &task.info)?, left(&task.row))
+    sites.add(place_of(alloc, &task.info)?, left(&task.row))
 }
 
 /// Adds the tasks that left.
@@ -85,7 +86,7 @@ fn add_there_at(
         (λ t. with_one sums.plus (site t.info) (sums.there t.row) sites.old) (slice_get tables.now.tasks place) sites.old) }
 {
     match tables.task_at(place) {
-        Some(task) => sites.add(site_of(alloc, &task.info)?, there(&task.row)),
+        Some(task) => sites.add(place_of(alloc, &task.info)?, there(&task.row)),
         None => Ok(()),
     }
 }
@@ -116,7 +117,7 @@ fn add_until_at(
 {
     match tables.task_at(place) {
         Some(task) => sites.add(
-            site_of(alloc, &task.info)?,
+            place_of(alloc, &task.info)?,
             there_until(&task.row, tables.now()),
         ),
         None => Ok(()),
@@ -149,7 +150,7 @@ fn add_warning(
         (task_with (task_of warning.now) tables.now.tasks) sites.old) }
 {
     match tables.task(warned_task(warning)) {
-        Some(task) => sites.add(site_of(alloc, &task.info)?, warned(Warnings::one(warning))),
+        Some(task) => sites.add(place_of(alloc, &task.info)?, warned(Warnings::one(warning))),
         None => Ok(()),
     }
 }

@@ -4,7 +4,6 @@
 //! - [`Sites`]: what watches a stream's lines for it. [`Sums`], [`Warnings`], [`Warned`]: what is added up of a place.
 //! - [`TimedSites`]: what watches them for histograms by place. [`SiteTimes`], [`Histogram`]: what is added up of these.
 //! - [`laws`]: what places add up to, and that their numbers stay.
-//! - [`site_of`]: the place of a task, as it is written.
 #![tactic(auto)]
 
 mod adding;
@@ -12,7 +11,6 @@ mod below;
 pub mod laws;
 mod lines;
 mod one;
-mod site;
 mod sites;
 mod sites_view;
 mod sums;
@@ -23,7 +21,6 @@ mod view;
 mod warned;
 
 pub use lines::more_site;
-pub use site::site_of;
 pub use sites::Sites;
 pub use sites_view::SitesView;
 pub use sums::Sums;

@@ -7,12 +7,12 @@ ghost use Rattle.tk_sites.specs.Lines as lines;
 ghost use Rattle.tk_sites.specs.One as spec;
 
 use crate::lines::{MORE, first_line, put, put_timed_line, put_warnings, text_of};
-use crate::site::site_of;
 use crate::sites_view::SitesView;
 use crate::sums::Sums;
 use crate::times::SiteTimes;
 use std::alloc::{AllocError, Global};
 use tk_client::Times;
+use tk_odd::place_of;
 use tk_report::put_task_lines;
 use tk_series::Limited;
 use tk_stream::{Tables, Task};
@@ -26,7 +26,7 @@ fn is_of(
 ) -> Result<bool, AllocError>
     ensures { IfOk result (λ is. is ≡ spec.is_of sites.now.first index task.now) }
 {
-    let own = site_of(alloc, &task.info)?;
+    let own = place_of(alloc, &task.info)?;
     match sites.at(index) {
         Some((site, _)) => Ok(own.as_slice() == site),
         None => Ok(!sites.has(own.as_slice())),

@@ -2,16 +2,17 @@
 ghost use Rattle.std.specs.Prelude.{◌≡◌, ◌++◌, ℕ, List, OnOk, map, slice_get};
 ghost use Rattle.std.specs.Option.{option_map_or};
 ghost use Rattle.tk_series.specs.Limited.{limited, with_one};
-ghost use Rattle.tk_sites.specs.Site.{room, site_of as site};
+ghost use Rattle.tk_odd.specs.Places.{place_of as site};
+ghost use Rattle.tk_sites.specs.Site.{room};
 ghost use Rattle.tk_sites.specs.TimedSites as spec;
 ghost use Rattle.tk_sites.specs.Times as sums;
 ghost use Rattle.tk_sites.specs.declared.times.SiteTimes.{SiteTimes as TimesView};
 
-use crate::site::site_of;
 use crate::times::{SiteTimes, times_of};
 use std::alloc::{AllocError, Global};
 use tk_client::{LeftTask, Times};
 use tk_ids::TaskId;
+use tk_odd::place_of;
 use tk_series::Limited;
 use tk_stream::{PollTimes, Tables, Task};
 
@@ -22,7 +23,7 @@ fn add_left_one(
 ) -> Result<(), AllocError>
     ensures { OnOk result (sites.new ≡ with_one sums.plus_times (site left.now.task.info) (sums.times_of left.now.times) sites.old) }
 {
-    sites.add(site_of(alloc, &left.task.info)?, times_of(&left.times))
+    sites.add(place_of(alloc, &left.task.info)?, times_of(&left.times))
 }
 
 /// Adds the histograms of the tasks that left.
@@ -60,7 +61,7 @@ fn add_there_one(
         ≡ with_one sums.plus_times (site task.now.info) (sums.times_of (spec.times_with times.now task.now.info.id)) sites.old) }
 {
     let own = times_with(times, task.info.id);
-    sites.add(site_of(alloc, &task.info)?, times_of(&own))
+    sites.add(place_of(alloc, &task.info)?, times_of(&own))
 }
 
 fn add_there_at(

@@ -21,7 +21,7 @@ use Rattle.tk_stream.specs.Sent.{IsCut}
 use Rattle.tk_stream.specs.Tables.{TablesView}
 use Rattle.tk_watch.specs.Keyed.{Coming, IsOver, Loses, Standing, WatchesKeys, after, asked_after, at_first, behind_in, broken, drawn, drawn_at, drawn_from, due, key, piece, shown_of, standing, is_no_key, text_at, text_of}
 use Rattle.tk_watch.specs.Course.{Sees}
-use Rattle.tk_watch.specs.Drawing.{Sends, SendsBefore}
+use Rattle.tk_watch.specs.Drawing.{Sends}
 use Rattle.tk_watch.specs.Keying.{Goes, Holds, IsFirst, Keying, SendsAt, Shows, Stands, held_then, holding, pressed_after, screen_after, screen_held}
 use Rattle.tk_watch.specs.Odd.{odd_in, seen_in}
 use Rattle.tk_watch.specs.Watching.{TakesTo}

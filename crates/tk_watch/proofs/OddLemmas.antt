@@ -1,5 +1,8 @@
 -- What was seen of the lines of bytes.
-use Rattle.std.proofs.Common.{◌≡◌, ℕ, zero, suc, ◌+◌, ◌≤◌, List, [], ◌∷◌, ◌++◌, length, take, false, Option, Some, None, Result, Ok, Err, OnOk, refl, ap, ap₂, sym, ◌∙◌, append_assoc, append-nil, arith, subst}
+use Rattle.std.proofs.Common.{◌≡◌, ℕ, zero, suc, ◌-◌, ◌≤◌, nat_le, nat_lt, ◌||◌, List, [], ◌∷◌, ◌++◌, length, take, Bool, true, false, cond, Option, Some, None, Result, Ok, Err, OnOk, refl, ap, ap₂, sym, ◌∙◌, append_assoc, append-nil, arith, subst}
+use Rattle.std.specs.List.{fold}
+use Rattle.std.specs.Option.{option_map}
+use Rattle.std.proofs.lemmas.List.Sums.{fold-append}
 use Rattle.tk_client.specs.declared.fault.Fault.{Fault}
 use Rattle.tk_client.specs.Changes.{Timed}
 use Rattle.tk_client.specs.Feeding.{ClientView}
@@ -8,14 +11,18 @@ use Rattle.tk_client.specs.Warnings.{LintsView}
 use Rattle.tk_client.proofs.Pieces.{stops-append}
 use Rattle.tk_fault.specs.declared.fault.AppFault.{AppFault}
 use Rattle.tk_fault.specs.declared.fault.AppFault.TheVariants as faults
+use Rattle.tk_odd.specs.declared.held.Held.{Held}
 use Rattle.tk_odd.specs.declared.limits.Limits.{Limits}
+use Rattle.tk_series.specs.Limited.{LimitedView}
+use Rattle.tk_sites.specs.declared.sums.Sums.{Sums}
 use Rattle.tk_frame.specs.Findings.{OddView}
-use Rattle.tk_frame.specs.Places.{PlaceRow}
+use Rattle.tk_frame.specs.Places.{PlaceRow, RecentView, recent_since}
+use Rattle.tk_frame.specs.declared.recent.Earlier.{Earlier}
 use Rattle.tk_odd.specs.Diagnosis.{standing_of}
 use Rattle.tk_odd.specs.Findings.{Placed, findings_of}
 use Rattle.tk_odd.specs.Inner.{Follows}
 use Rattle.tk_sites.specs.Inner.{Follows as FollowsSites}
-use Rattle.tk_reading.specs.Fronts.{IsFront, Rise, last_lines, lines_in, tables_in}
+use Rattle.tk_reading.specs.Fronts.{IsFront, Rise, last_lines, lines_in}
 use Rattle.tk_reading.specs.Outcomes.{outcome_of}
 use Rattle.tk_reading.specs.Reads.{StopsAfter, TakesMore}
 use Rattle.tk_reading.specs.Shown.{shown_of, tables_of, timed_from}
@@ -23,10 +30,14 @@ use Rattle.tk_reading.specs.Taken.{HasTaken}
 use Rattle.tk_reading.proofs.FrontLemmas.{front_few, last_more}
 use Rattle.tk_reading.proofs.ShownLemmas.{shown-append, shown_count}
 use Rattle.tk_stream.specs.Tables.{TablesView}
-use Rattle.tk_watch.specs.Course.{Sees, first_or, span_to}
+use Rattle.tk_watch.specs.Course.{Keeps, Sees, first_or, span_to}
 use Rattle.tk_watch.specs.Odd.{first_moment, odd_after, places_after, seen_in}
+use Rattle.tk_watch.specs.Waits.{waits_after}
 use Rattle.tk_watch.specs.Watching.{TakesTo}
 use Rattle.tk_watch.specs.declared.seen.Course.{Course}
+use Rattle.tk_watch.specs.Lasts.{last_of}
+use Rattle.tk_watch.specs.Recent.{Noted, earlier_of, has_fallen, is_due, last_old, noted_of, nothing, recent_after, still, with_line}
+use Rattle.tk_watch.specs.declared.notes.Notes.{Notes}
 use Rattle.tk_watch.specs.declared.seen.Seen.{Seen}
 
 -- ---- the lines that are applied
@@ -101,33 +112,105 @@ first_more : (shown : List TablesView) (tables : TablesView) → first_or (first
 first_more [] tables = refl
 first_more (t ∷ ts) tables = refl
 
+-- a line more was noted
+noted_more : (lints : LintsView) (shown : List TablesView) (tables : TablesView) → noted_of lints (shown ++ tables ∷ []) ≡ with_line lints (noted_of lints shown) tables
+noted_more lints shown tables = fold-append (with_line lints) nothing shown (tables ∷ [])
+
+came_from : (lints : LintsView) (n : Noted) (shown : List TablesView) → (fold (with_line lints) n shown).came ≡ n.came ++ shown
+came_from lints n [] = sym (append-nil n.came)
+came_from lints n (t ∷ ts) = came_from lints (with_line lints n t) ts ∙ append_assoc n.came (t ∷ []) ts
+
+-- the lines that came are those
+pub came_is : (lints : LintsView) (shown : List TablesView) → (noted_of lints shown).came ≡ shown
+came_is lints shown = came_from lints nothing shown
+
+-- what places had come to
+abbrev pub earlier_with : ℕ → LimitedView Sums → List (List ℕ × Held) → Earlier
+earlier_with moment sites held = record { moment = moment; sites = sites; held = held }
+
+pub earlier_same : (m n : ℕ) (s t : LimitedView Sums) (g h : List (List ℕ × Held)) → m ≡ n → s ≡ t → g ≡ h → earlier_with m s g ≡ earlier_with n t h
+earlier_same m n s t g h a b c =
+    ap (λ (x : ℕ). earlier_with x s g) a ∙ ap (λ (x : LimitedView Sums). earlier_with n x g) b ∙ ap (earlier_with n t) c
+
+-- whether it is to be noted
+pub due_is : (noted : Noted) (n : Notes) (t : TablesView) (now : ℕ) (b : Bool) → Keeps noted n → now ≡ t.now → b ≡ is_due n.last now → is_due noted.last t.now ≡ b
+due_is noted n t now b k same is = sym (is ∙ ap₂ (λ (l : Option ℕ) (m : ℕ). is_due l m) k.last same)
+
+-- a moment that isn't noted isn't before the last note
+not_fallen : (last : Option ℕ) (now : ℕ) → is_due last now ≡ false → has_fallen last now ≡ false
+not_fallen None now e = refl
+not_fallen (Some last) now e = first (nat_lt now last) (nat_le 100000000 (now - last)) e
+  where
+    first : (a b : Bool) → (a || b) ≡ false → a ≡ false
+    first true b h = h
+    first false b h = refl
+
+-- a line after which nothing is noted
+pub notes_none : (lints : LintsView) (noted : Noted) (t : TablesView) (n : Notes) → is_due noted.last t.now ≡ false → Keeps noted n → Keeps (with_line lints noted t) n
+notes_none lints noted t n none k = record {
+  last = k.last ∙ ap (λ (b : Bool). cond b (Some t.now) noted.last) (sym none);
+  again = k.again ∙ ap (λ (b : Bool). b || noted.again) (sym (not_fallen noted.last t.now none));
+  notes = k.notes ∙ ap (λ (b : Bool). last_of 64 (cond b (still noted.last t.now noted.notes ++ earlier_of lints (noted.came ++ t ∷ []) t ∷ []) noted.notes)) (sym none);
+}
+
+-- a line after which it is noted what places have come to
+pub notes_one : (lints : LintsView) (noted : Noted) (t : TablesView) (new : Notes) (e : Earlier) (notes : List Earlier) → is_due noted.last t.now ≡ true
+    → e ≡ earlier_of lints (noted.came ++ t ∷ []) t → new.last ≡ Some t.now → new.again ≡ (has_fallen noted.last t.now || noted.again) → notes ≡ still noted.last t.now noted.notes → new.list.items ≡ last_of 64 (notes ++ e ∷ [])
+    → Keeps (with_line lints noted t) new
+notes_one lints noted t new e notes due is last again stay pushed = record {
+  last = last ∙ ap (λ (b : Bool). cond b (Some t.now) noted.last) (sym due);
+  again = again;
+  notes = pushed
+      ∙ ap₂ (λ (xs : List Earlier) (x : Earlier). last_of 64 (xs ++ x ∷ [])) stay is
+      ∙ ap (λ (b : Bool). last_of 64 (cond b (still noted.last t.now noted.notes ++ earlier_of lints (noted.came ++ t ∷ []) t ∷ []) noted.notes)) (sym due);
+}
+
 -- a line more was seen
 pub sees_more : {E : Type 0} (lints : LintsView) (shown : List TablesView) (tables : TablesView) (old new : Seen) (result : Result (Unit {0}) E) → Sees lints shown old
     → Follows (shown ++ tables ∷ []) new.diagnosis → new.diagnosis.limits ≡ old.diagnosis.limits → new.first ≡ first_or old.first tables.now
-    → OnOk result (FollowsSites (shown ++ tables ∷ []) new.sites)
+    → FollowsSites (shown ++ tables ∷ []) new.sites
+    → new.waits.items ≡ waits_after (shown ++ tables ∷ [])
+    → OnOk result (Keeps (with_line lints (noted_of lints shown) tables) new.notes)
     → OnOk result (Sees lints (shown ++ tables ∷ []) new)
-sees_more lints shown tables old new (Ok done) s follows limits first sites = record {
+sees_more lints shown tables old new (Ok done) s follows limits first sites waits notes = record {
   follows = follows;
   limits = limits ∙ s.limits;
   first = first ∙ ap (λ (o : Option ℕ). first_or o tables.now) s.first ∙ first_more shown tables;
   sites = sites;
+  notes = subst (λ (n : Noted). Keeps n new.notes) (sym (noted_more lints shown tables)) notes;
+  waits = waits;
 }
-sees_more lints shown tables old new (Err e) s follows limits first sites = tt
+sees_more lints shown tables old new (Err e) s follows limits first sites waits notes = tt
 
 -- findings, places, and the time that lines span
-abbrev pub odd_with : List Placed → List PlaceRow → Option ℕ → OddView
-odd_with findings places span = record { findings = findings; places = places; span = span; long = 100000000 }
+abbrev pub odd_with : List Placed → List PlaceRow → Option RecentView → List ℕ → Bool → Option ℕ → OddView
+odd_with findings places recent waits again span =
+    record { findings = findings; places = places; recent = recent; waits = waits; again = again; span = span; long = 100000000 }
 
-odd_same : (f g : List Placed) (p q : List PlaceRow) (s t : Option ℕ) → f ≡ g → p ≡ q → s ≡ t → odd_with f p s ≡ odd_with g q t
-odd_same f g p q s t a b c = ap (λ (x : List Placed). odd_with x p s) a ∙ ap (λ (x : List PlaceRow). odd_with g x s) b ∙ ap (odd_with g q) c
+odd_same : (f g : List Placed) (p q : List PlaceRow) (r u : Option RecentView) (v w : List ℕ) (m n : Bool) (s t : Option ℕ) → f ≡ g → p ≡ q → r ≡ u → v ≡ w → m ≡ n → s ≡ t
+    → odd_with f p r v m s ≡ odd_with g q u w n t
+odd_same f g p q r u v w m n s t a b c d h e =
+    ap (λ (x : List Placed). odd_with x p r v m s) a
+    ∙ ap (λ (x : List PlaceRow). odd_with g x r v m s) b
+    ∙ ap (λ (x : Option RecentView). odd_with g q x v m s) c
+    ∙ ap (λ (x : List ℕ). odd_with g q u x m s) d
+    ∙ ap (λ (x : Bool). odd_with g q u w x s) h
+    ∙ ap (odd_with g q u w n) e
+
+-- what places came to in the last while
+pub recent_is : (lints : LintsView) (shown : List TablesView) (seen : Seen) (now : ℕ) (ps qs : List PlaceRow) → Sees lints shown seen → ps ≡ qs
+    → option_map (λ e. recent_since e now ps) (last_old now seen.notes.list.items) ≡ recent_after lints shown now qs
+recent_is lints shown seen now ps qs s same =
+    ap₂ (λ (notes : List Earlier) (xs : List PlaceRow). option_map (λ e. recent_since e now xs) (last_old now notes)) s.notes.notes same
 
 -- what is odd about tables to which its lines came, and their places
-pub odd_is : (lints : LintsView) (shown : List TablesView) (seen : Seen) (tables : TablesView) (findings : List Placed) (places : List PlaceRow) (span : Option ℕ)
+pub odd_is : (lints : LintsView) (shown : List TablesView) (seen : Seen) (tables : TablesView) (findings : List Placed) (places : List PlaceRow) (recent : Option RecentView) (waits : List ℕ) (again : Bool) (span : Option ℕ)
     → Sees lints shown seen
-    → findings ≡ findings_of seen.diagnosis.limits (standing_of seen.diagnosis.limits shown) tables → places ≡ places_after lints shown tables → span ≡ span_to tables.now seen.first
-    → odd_with findings places span ≡ odd_after lints shown tables
-odd_is lints shown seen tables findings places span s found placed spans =
-    odd_same findings _ places _ span _ (found ∙ ap (λ (l : Limits). findings_of l (standing_of l shown) tables) s.limits) placed (spans ∙ ap (span_to tables.now) s.first)
+    → findings ≡ findings_of seen.diagnosis.limits (standing_of seen.diagnosis.limits shown) tables → places ≡ places_after lints shown tables
+    → recent ≡ recent_after lints shown tables.now (places_after lints shown tables) → waits ≡ seen.waits.items → again ≡ seen.notes.again → span ≡ span_to tables.now seen.first
+    → odd_with findings places recent waits again span ≡ odd_after lints shown tables
+odd_is lints shown seen tables findings places recent waits again span s found placed lately waited started spans =
+    odd_same findings _ places _ recent _ waits _ again _ span _ (found ∙ ap (λ (l : Limits). findings_of l (standing_of l shown) tables) s.limits) placed lately (waited ∙ s.waits) (started ∙ s.notes.again) (spans ∙ ap (span_to tables.now) s.first)
 
 -- it has seen the tables of what was shown after each line
 abbrev pub sees_in : LintsView → List Timed → Seen → Type 0

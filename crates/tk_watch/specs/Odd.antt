@@ -4,7 +4,6 @@ use Rattle.std.specs.Option.{option_map}
 use Rattle.tk_client.specs.Warnings.{LintsView}
 use Rattle.tk_frame.specs.Findings.{OddView}
 use Rattle.tk_frame.specs.Places.{PlaceRow, places_in}
-use Rattle.tk_odd.specs.declared.limits.Limits.{Limits}
 use Rattle.tk_odd.specs.Diagnosis.{standing_of}
 use Rattle.tk_odd.specs.Findings.{findings_of}
 use Rattle.tk_reading.specs.Fronts.{lines_in, tables_in}
@@ -12,10 +11,8 @@ use Rattle.tk_reading.specs.Outcomes.{outcome_of}
 use Rattle.tk_reading.specs.Shown.{shown_of}
 use Rattle.tk_sites.specs.Sites.{sites_until}
 use Rattle.tk_stream.specs.Tables.{TablesView}
-
--- how much is too much: a poll of 100 milliseconds is a long one
-abbrev pub limits_of : LintsView → Limits
-limits_of lints = record { long = 100000000; lints = lints }
+use Rattle.tk_watch.specs.Recent.{limits_of, noted_of, recent_after}
+use Rattle.tk_watch.specs.Waits.{waits_after}
 
 -- the tables after each line of a stream's bytes that is applied: at a fault those before it
 abbrev pub seen_in : List ℕ → List TablesView
@@ -31,11 +28,15 @@ first_moment (t ∷ ts) = Some t.now
 abbrev pub places_after : LintsView → List TablesView → TablesView → List PlaceRow
 places_after lints shown tables = places_in (sites_until shown tables) (standing_of (limits_of lints) shown).places.0
 
--- what is odd about tables to which these lines came, and their places
+-- what is odd about tables to which these lines came, and their places, with what these came to in the last 5 seconds; how many tasks
+-- waited at each of the last lines; and whether the service was started again
 abbrev pub odd_after : LintsView → List TablesView → TablesView → OddView
 odd_after lints shown tables = record {
   findings = findings_of (limits_of lints) (standing_of (limits_of lints) shown) tables;
   places = places_after lints shown tables;
+  recent = recent_after lints shown tables.now (places_after lints shown tables);
+  waits = waits_after shown;
+  again = (noted_of lints shown).again;
   span = option_map (λ from. tables.now - from) (first_moment shown);
   long = (limits_of lints).long;
 }

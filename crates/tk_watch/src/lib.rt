@@ -10,10 +10,13 @@
 
 mod drawing;
 mod keyed;
+mod last;
 pub mod laws;
+mod notes;
 mod seen;
 mod session;
 mod source;
+mod waits;
 mod watching;
 
 pub use drawing::Screen;

@@ -7,6 +7,8 @@ ghost use Rattle.tk_watch.specs.Course as spec;
 ghost use Rattle.tk_frame.specs.Places.{row_of};
 ghost use Rattle.tk_watch.specs.Odd.{odd_after, places_after};
 
+use crate::notes::Notes;
+use crate::waits::note_waits;
 use std::alloc::{AllocError, Global};
 use tk_client::{Change, Client, Lints, Times};
 use tk_frame::{Odd, Place, places_of};
@@ -25,6 +27,9 @@ pub(crate) struct Seen {
     first: Option<u64>,
     diagnosis: Diagnosis,
     sites: Sites,
+    notes: Notes,
+    // How many tasks waited at each of the last lines, the last one last.
+    waits: Vec<u64>,
 }
 
 impl Seen {
@@ -41,6 +46,8 @@ impl Seen {
             first: None,
             diagnosis,
             sites: Sites::new(alloc),
+            notes: Notes::new(alloc),
+            waits: Vec::new(alloc),
         })
     }
 
@@ -64,15 +71,19 @@ impl Seen {
         Ok(places)
     }
 
-    /// What is odd about the tables of the last line, and their places.
+    /// What is odd about the tables of the last line, and their places, with what these came to in the last while.
     pub fn odd(&self, alloc: Global, tables: &Tables) -> Result<Odd, AllocError>
         ensures { (lints : LintsView) (shown : List TablesView) → spec.Sees lints shown self.now
             → IfOk result (λ odd. odd ≡ odd_after lints shown tables.now) }
     {
-        let span = self.span_to(tables.now());
+        let now = tables.now();
+        let span = self.span_to(now);
         let findings = self.diagnosis.findings(alloc, tables)?;
         let places = self.places(alloc, tables)?;
-        Ok(Odd::new(findings, places, span, LONG_POLL))
+        let recent = self.notes.recent(alloc, now, places.as_slice())?;
+        let waits = Vec::from_slice(alloc, self.waits.as_slice())?;
+        let again = self.notes.again();
+        Ok(Odd::new(findings, places, recent, waits, again, span, LONG_POLL))
     }
 
     // Keeps the moment of the first line.
@@ -80,6 +91,8 @@ impl Seen {
         ensures first { self.new.first ≡ spec.first_or self.old.first now }
         ensures diagnosis { self.new.diagnosis ≡ self.old.diagnosis }
         ensures sites { self.new.sites ≡ self.old.sites }
+        ensures notes { self.new.notes ≡ self.old.notes }
+        ensures waits { self.new.waits.items ≡ self.old.waits.items }
     {
         if self.first.is_none() {
             self.first = Some(now);
@@ -95,8 +108,10 @@ impl Observes for Seen {
 
     fn line(&mut self, tables: &Tables, _times: &Times, change: &Change) -> Result<(), AllocError> {
         self.mark(tables.now());
+        note_waits(&mut self.waits, tables)?;
         self.diagnosis.note(tables, change)?;
-        self.sites.note(tables, change)
+        self.sites.note(tables, change)?;
+        self.notes.note(&self.sites, &self.diagnosis, tables)
     }
 }
 

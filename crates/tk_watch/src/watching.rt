@@ -1,5 +1,5 @@
 //! A stream that is watched.
-ghost use Rattle.std.specs.Prelude.{◌≡◌, ◌≤◌, ◌<◌, ◌+◌, ◌^◌, ◌++◌, ℕ, List, Option, length, IfOk, true, false};
+ghost use Rattle.std.specs.Prelude.{◌≡◌, ◌≤◌, ◌<◌, ◌+◌, ◌^◌, ◌++◌, ℕ, List, [], Bool, Option, length, IfOk, true, false};
 ghost use Rattle.std.specs.Io.KnownBytes.{Consumes, IsAtEnd};
 ghost use Rattle.tk_client.specs.Warnings.{LintsView};
 ghost use Rattle.tk_reading.specs.Taken.{HasTaken};
@@ -64,9 +64,9 @@ fn take_piece<W: Write>(
 ) -> Result<u64, AppFault>
     requires few { lines + 65536 ≤ 2 ^ 62 }
     requires short { length piece.now ≤ 65536 }
-    ensures goes { (given left new old : Option (List ℕ)) (drawn : Option ℕ) → Consumes left new piece.now
-        → spec.Watching screen.now given left lines drawn course.old old (W.contents writer.old)
-        → spec.Goes screen.now given new result drawn course.new old (W.contents writer.new) }
+    ensures goes { (given left new old : Option (List ℕ)) (drawn : Option ℕ) (said told : Option (List Bool)) → Consumes left new piece.now
+        → spec.Watching screen.now given left lines drawn [] course.old old (W.contents writer.old) said told
+        → spec.Goes screen.now given new result drawn piece.now course.new old (W.contents writer.new) said told }
     ensures few { IfOk result (λ sum. sum ≤ lines + 65536) }
 {
     match feed_more(course, lines, piece) {
@@ -86,7 +86,7 @@ fn is_new(lines: u64, drawn: Option<u64>) -> bool
     }
 }
 
-// Draws a screen where lines came since the last one, which had so many, and answers how many the last one then has.
+// Draws a screen where the reader has no more and lines came since the last one, which had so many, and answers how many the last one then has.
 fn draw_new<W: Write>(
     course: &Course,
     alloc: Global,
@@ -95,8 +95,9 @@ fn draw_new<W: Write>(
     lines: u64,
     drawn: Option<u64>,
 ) -> Result<Option<u64>, AppFault>
-    ensures drew { (given left old : Option (List ℕ)) → spec.Watching screen.now given left lines drawn course.now old (W.contents writer.old)
-        → spec.Drew screen.now given left lines result course.now old (W.contents writer.new) }
+    ensures drew { (given left old : Option (List ℕ)) (said told : Option (List Bool))
+        → spec.Watching screen.now given left lines drawn [] course.now old (W.contents writer.old) said told
+        → spec.Drew screen.now given left lines result course.now old (W.contents writer.new) said told }
     ensures covers { IfOk result (λ last. spec.Covers last lines) }
 {
     if !is_new(lines, drawn) {
@@ -106,17 +107,24 @@ fn draw_new<W: Write>(
     Ok(Some(lines))
 }
 
-// Whether a screen may be drawn after a piece. Where none is due yet, but the reader had no more and no line is half read, it waits:
-// else what came last would not be drawn before more comes.
-fn may_draw<P: Pace>(pace: &mut P, piece: &[u8]) -> bool {
+// Whether a reader gave all that it has, and no line is half read.
+fn is_at_rest(piece: &[u8]) -> bool {
+    piece.len() < PIECE && piece.last() == Some(&b'\n')
+}
+
+// Whether a screen may be drawn after a piece. Where none is due yet, but the reader has no more, it waits: else what came last would not be drawn
+// before more comes.
+fn may_draw<P: Pace>(pace: &mut P, piece: &[u8]) -> bool
+    ensures { spec.Asks (P.said pace.old) (P.said pace.new) result }
+{
     if pace.is_due() {
         return true;
     }
-    let is_at_rest = piece.len() < PIECE && piece.last() == Some(&b'\n');
-    if is_at_rest {
+    if is_at_rest(piece) {
         pace.wait();
+        return true;
     }
-    is_at_rest
+    false
 }
 
 // Draws a screen after a piece, where one may be drawn and lines came since the last one.
@@ -130,15 +138,19 @@ fn draw_after<W: Write, P: Pace>(
     drawn: Option<u64>,
     piece: &[u8],
 ) -> Result<Option<u64>, AppFault>
-    ensures drew { (given left old : Option (List ℕ)) → spec.Watching screen.now given left lines drawn course.now old (W.contents writer.old)
-        → spec.Drew screen.now given left lines result course.now old (W.contents writer.new) }
+    ensures drew { (given left old : Option (List ℕ)) (said : Option (List Bool))
+        → spec.Watching screen.now given left lines drawn piece.now course.now old (W.contents writer.old) said (P.said pace.old)
+        → spec.Drew screen.now given left lines result course.now old (W.contents writer.new) said (P.said pace.new) }
 {
-    if !is_new(lines, drawn) || !may_draw(pace, piece) {
+    if !is_new(lines, drawn) {
         return Ok(drawn);
     }
-    let last = draw_new(course, alloc, writer, screen, lines, drawn)?;
+    if !may_draw(pace, piece) {
+        return Ok(drawn);
+    }
+    draw(course, alloc, writer, screen)?;
     pace.mark();
-    Ok(last)
+    Ok(Some(lines))
 }
 
 // Takes a piece that was read, and draws a screen where one may be drawn.
@@ -153,9 +165,9 @@ fn after_piece<W: Write, P: Pace>(
 ) -> Result<Option<Progress>, AppFault>
     requires few { progress.lines + 65536 ≤ 2 ^ 62 }
     requires short { length piece.now ≤ 65536 }
-    ensures steps { (given left new old : Option (List ℕ)) → Consumes left new piece.now
-        → spec.Watching screen.now given left progress.lines progress.drawn course.old old (W.contents writer.old)
-        → spec.Steps screen.now given new result course.new old (W.contents writer.new) }
+    ensures steps { (given left new old : Option (List ℕ)) (said : Option (List Bool)) → Consumes left new piece.now
+        → spec.Watching screen.now given left progress.lines progress.drawn [] course.old old (W.contents writer.old) said (P.said pace.old)
+        → spec.Steps screen.now given new result course.new old (W.contents writer.new) said (P.said pace.new) }
     ensures few { spec.IsFew progress.lines result }
 {
     let lines = take_piece(course, alloc, writer, screen, progress.lines, piece)?;
@@ -181,9 +193,9 @@ fn at_end<W: Write, P: Pace>(
     pace: &mut P,
     progress: Progress,
 ) -> Result<Option<Progress>, AppFault>
-    ensures steps { (given left old : Option (List ℕ)) → IsAtEnd left
-        → spec.Watching screen.now given left progress.lines progress.drawn course.now old (W.contents writer.old)
-        → spec.Steps screen.now given left result course.now old (W.contents writer.new) }
+    ensures steps { (given left old : Option (List ℕ)) (said : Option (List Bool)) → IsAtEnd left
+        → spec.Watching screen.now given left progress.lines progress.drawn [] course.now old (W.contents writer.old) said (P.said pace.old)
+        → spec.Steps screen.now given left result course.now old (W.contents writer.new) said (P.said pace.new) }
     ensures few { spec.IsFew progress.lines result }
 {
     let lines = progress.lines;
@@ -208,9 +220,9 @@ fn step<R: Read, W: Write, P: Pace>(
 ) -> Result<Option<Progress>, AppFault>
     requires few { progress.lines + 65536 ≤ 2 ^ 62 }
     requires room { length piece.old ≡ 65536 }
-    ensures steps { (given old : Option (List ℕ))
-        → spec.Watching screen.now given (R.remaining reader.old) progress.lines progress.drawn course.old old (W.contents writer.old)
-        → spec.Steps screen.now given (R.remaining reader.new) result course.new old (W.contents writer.new) }
+    ensures steps { (given old : Option (List ℕ)) (said : Option (List Bool))
+        → spec.Watching screen.now given (R.remaining reader.old) progress.lines progress.drawn [] course.old old (W.contents writer.old) said (P.said pace.old)
+        → spec.Steps screen.now given (R.remaining reader.new) result course.new old (W.contents writer.new) said (P.said pace.new) }
     ensures few { spec.IsFew progress.lines result }
 {
     match reader.read(piece) {
@@ -230,7 +242,8 @@ fn watch_by<R: Read, W: Write, P: Pace>(
     pace: &mut P,
 ) -> Result<(), AppFault>
     requires { IsNew screen.now.lints course.old }
-    ensures { Watches screen.now (R.remaining reader.old) (R.remaining reader.new) result (W.contents writer.old) (W.contents writer.new) }
+    ensures { Watches screen.now (R.remaining reader.old) (R.remaining reader.new) result (W.contents writer.old) (W.contents writer.new)
+        (P.said pace.old) (P.said pace.new) }
 {
     let mut piece = [0u8; PIECE];
     let mut progress = Progress {
@@ -266,7 +279,8 @@ pub fn watch_stream<R: Read, W: Write, P: Pace>(
     screen: &Screen<'_>,
     pace: &mut P,
 ) -> Result<(), AppFault>
-    ensures { Watches screen.now (R.remaining reader.old) (R.remaining reader.new) result (W.contents writer.old) (W.contents writer.new) }
+    ensures { Watches screen.now (R.remaining reader.old) (R.remaining reader.new) result (W.contents writer.old) (W.contents writer.new)
+        (P.said pace.old) (P.said pace.new) }
 {
     match Course::new(alloc, screen.lints) {
         Ok(mut course) => watch_by(&mut course, alloc, reader, writer, screen, pace),

@@ -12,16 +12,19 @@ _taskscope() {
     view:--long-poll) return ;;
     view:--long-wait) return ;;
     view:--by) return ;;
+    view:--until) return ;;
     view:--place) return ;;
     lint:--self-wake-percent) return ;;
     lint:--never-yielded-ns) return ;;
     lint:--long-poll) return ;;
     lint:--long-wait) return ;;
     lint:--by) return ;;
+    lint:--until) return ;;
     page:--self-wake-percent) return ;;
     page:--never-yielded-ns) return ;;
     page:--long-poll) return ;;
     page:--title) return ;;
+    page:--until) return ;;
     watch:--self-wake-percent) return ;;
     watch:--never-yielded-ns) return ;;
     watch:--sort) COMPREPLY=($(compgen -W 'busy sched polls wakes self-wakes held-up' -- "$word")); return ;;
@@ -34,6 +37,7 @@ _taskscope() {
     metrics:--by) return ;;
     metrics:--every) return ;;
     metrics:--series) return ;;
+    metrics:--until) return ;;
     compare:--self-wake-percent) return ;;
     compare:--never-yielded-ns) return ;;
     compare:--long-poll) return ;;
@@ -42,11 +46,11 @@ _taskscope() {
     esac
     case ${COMP_WORDS[1]} in
     run) all='--explain --help' ;;
-    view) all='--self-wake-percent --never-yielded-ns --long-poll --long-wait --findings --by --times --place --explain --help' ;;
-    lint) all='--self-wake-percent --never-yielded-ns --long-poll --long-wait --findings --by --explain --help' ;;
-    page) all='--self-wake-percent --never-yielded-ns --long-poll --title --help' ;;
+    view) all='--self-wake-percent --never-yielded-ns --long-poll --long-wait --findings --by --until --times --place --explain --help' ;;
+    lint) all='--self-wake-percent --never-yielded-ns --long-poll --long-wait --findings --by --until --explain --help' ;;
+    page) all='--self-wake-percent --never-yielded-ns --long-poll --title --until --help' ;;
     watch) all='--self-wake-percent --never-yielded-ns --sort --rows --filter --resources --by --every --follow --keys --plain --help' ;;
-    metrics) all='--self-wake-percent --never-yielded-ns --by --to --every --follow --series --help' ;;
+    metrics) all='--self-wake-percent --never-yielded-ns --by --to --every --follow --series --until --help' ;;
     compare) all='--self-wake-percent --never-yielded-ns --long-poll --more-than --at-least --help' ;;
     demo) all='--help' ;;
     help) all='run view lint page watch metrics compare demo help' ;;

@@ -46,7 +46,7 @@ fn has(words: &[OsString], option: &str) -> bool {
 }
 
 /// Options of `watch`, `metrics`, `page` and `compare` whose value may be a word of its own.
-const WITH_VALUE: [&str; 13] = [
+const WITH_VALUE: [&str; 14] = [
     "--self-wake-percent",
     "--never-yielded-ns",
     "--sort",
@@ -58,6 +58,7 @@ const WITH_VALUE: [&str; 13] = [
     "--series",
     "--long-poll",
     "--title",
+    "--until",
     "--more-than",
     "--at-least",
 ];

@@ -34,6 +34,18 @@ pub(super) const CLOSED: &[u8] =
 pub(super) const LATER: &[u8] =
     b"{\"dropped\":[0,0,0],\"gone_ops\":[],\"gone_resources\":[],\"gone_tasks\":[],\"new_ops\":[],\"new_resources\":[],\"new_tasks\":[{\"id\":1099511627778,\"kind\":\"spawn\",\"loc\":[\"script\",3,1],\"name\":\"b\"}],\"now\":200000006,\"op_stats\":[],\"poll_counts\":[],\"resource_stats\":[],\"seq\":2,\"snapshot\":false,\"task_stats\":[{\"busy\":0,\"clones\":0,\"created\":199000006,\"dropped\":null,\"drops\":0,\"first_poll\":null,\"handles\":1,\"id\":1099511627778,\"last_ended\":null,\"last_started\":null,\"last_wake\":null,\"polling\":false,\"polls\":0,\"sched\":0,\"scheduled\":true,\"self_wakes\":0,\"wakes\":0}],\"v\":2}\n";
 
+// The service was started again, and has one task, which waits: a line at 2.
+pub(super) const AGAIN: &[u8] =
+    b"{\"dropped\":[0,0,0],\"gone_ops\":[],\"gone_resources\":[],\"gone_tasks\":[],\"new_ops\":[],\"new_resources\":[],\"new_tasks\":[{\"id\":1099511627777,\"kind\":\"spawn\",\"loc\":[\"script\",2,1],\"name\":\"a\"}],\"now\":2,\"op_stats\":[],\"poll_counts\":[],\"resource_stats\":[],\"seq\":2,\"snapshot\":true,\"task_stats\":[{\"busy\":0,\"clones\":0,\"created\":1,\"dropped\":null,\"drops\":0,\"first_poll\":null,\"handles\":1,\"id\":1099511627777,\"last_ended\":null,\"last_started\":null,\"last_wake\":null,\"polling\":false,\"polls\":0,\"sched\":0,\"scheduled\":true,\"self_wakes\":0,\"wakes\":0}],\"v\":2}\n";
+
+// Two tasks: the first ran 600 ms before the first line, at 1 s, and does nothing after it. The second runs 10 ms in ten polls up to the
+// second line, at 6.5 s.
+pub(super) const EARLY: &[u8] =
+    b"{\"dropped\":[0,0,0],\"gone_ops\":[],\"gone_resources\":[],\"gone_tasks\":[],\"new_ops\":[],\"new_resources\":[],\"new_tasks\":[{\"id\":1099511627777,\"kind\":\"spawn\",\"loc\":[\"script\",2,1],\"name\":\"a\"},{\"id\":1099511627778,\"kind\":\"spawn\",\"loc\":[\"script\",3,1],\"name\":\"b\"}],\"now\":1000000000,\"op_stats\":[],\"poll_counts\":[],\"resource_stats\":[],\"seq\":1,\"snapshot\":false,\"task_stats\":[{\"busy\":600000000,\"clones\":1,\"created\":0,\"dropped\":null,\"drops\":0,\"first_poll\":1000,\"handles\":1,\"id\":1099511627777,\"last_ended\":991000000,\"last_started\":990000000,\"last_wake\":989000000,\"polling\":false,\"polls\":40,\"sched\":2000000,\"scheduled\":false,\"self_wakes\":1,\"wakes\":45},{\"busy\":100000000,\"clones\":1,\"created\":0,\"dropped\":null,\"drops\":0,\"first_poll\":1000,\"handles\":1,\"id\":1099511627778,\"last_ended\":996000000,\"last_started\":995000000,\"last_wake\":994900000,\"polling\":false,\"polls\":10,\"sched\":1000000,\"scheduled\":false,\"self_wakes\":0,\"wakes\":11}],\"v\":2}\n";
+
+pub(super) const LATE: &[u8] =
+    b"{\"dropped\":[0,0,0],\"gone_ops\":[],\"gone_resources\":[],\"gone_tasks\":[],\"new_ops\":[],\"new_resources\":[],\"new_tasks\":[],\"now\":6500000000,\"op_stats\":[],\"poll_counts\":[],\"resource_stats\":[],\"seq\":2,\"snapshot\":false,\"task_stats\":[{\"busy\":110000000,\"clones\":1,\"created\":0,\"dropped\":null,\"drops\":0,\"first_poll\":1000,\"handles\":1,\"id\":1099511627778,\"last_ended\":6401000000,\"last_started\":6400000000,\"last_wake\":6399700000,\"polling\":false,\"polls\":20,\"sched\":4000000,\"scheduled\":false,\"self_wakes\":0,\"wakes\":22}],\"v\":2}\n";
+
 // The screens of these.
 pub(super) const FIRST_SCREEN: &str =
     "now 6 ns  tasks 1: 0 polling, 0 scheduled, 0 idle, 1 closed  findings 0
@@ -45,6 +57,7 @@ no finding now; who holds up others can't be seen: the lines span 0 ns, and it t
 
 pub(super) const SECOND_SCREEN: &str =
     "now 14 ns  tasks 1: 0 polling, 0 scheduled, 0 idle, 1 closed  findings 0
+waiting  __  at most 0
 no finding now; who holds up others can't be seen: the lines span 8 ns, and it takes at least 100.0 ms
   TASK STATE         BUSY    SCHED  POLLS  WAKES SELF LOCATION        NAME                 KIND
 0 of 0 tasks
@@ -53,6 +66,7 @@ no finding now; who holds up others can't be seen: the lines span 8 ns, and it t
 
 pub(super) const THIRD_SCREEN: &str =
     "now 15 ns  tasks 0: 0 polling, 0 scheduled, 0 idle, 0 closed  findings 0
+waiting  ___  at most 0
 no finding now; who holds up others can't be seen: the lines span 9 ns, and it takes at least 100.0 ms
   TASK STATE         BUSY    SCHED  POLLS  WAKES SELF LOCATION        NAME                 KIND
 0 of 0 tasks
@@ -61,9 +75,20 @@ no finding now; who holds up others can't be seen: the lines span 9 ns, and it t
 
 pub(super) const LATER_SCREEN: &str =
     "now 200.0 ms  tasks 2: 0 polling, 1 scheduled, 0 idle, 1 closed  findings 0
+waiting  _#  at most 1
 no finding now or earlier: 1 task waits, the longest for 1.0 ms
   TASK STATE         BUSY    SCHED  POLLS  WAKES SELF LOCATION        NAME                 KIND
    1.2 scheduled     0 ns   1.0 ms      0      0    - script:3:1      b                    spawn
+1 of 1 tasks
+
+";
+
+pub(super) const AGAIN_SCREEN: &str =
+    "now 2 ns, started again  tasks 1: 0 polling, 1 scheduled, 0 idle, 0 closed  findings 0
+waiting  _#  at most 1
+no finding now; who holds up others can't be seen: the lines span 0 ns, and it takes at least 100.0 ms
+  TASK STATE         BUSY    SCHED  POLLS  WAKES SELF LOCATION        NAME                 KIND
+   1.1 scheduled     0 ns     1 ns      0      0    - script:2:1      a                    spawn
 1 of 1 tasks
 
 ";
@@ -141,6 +166,7 @@ pub(super) fn comes_to<R: Read, W: Write>(
             typed: Typed::none(),
             resources: asked.resources,
             by_place: asked.by_place,
+            recent: false,
         },
         lints: Lints::default(),
         canvas: asked.canvas,

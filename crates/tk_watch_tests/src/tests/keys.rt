@@ -3,7 +3,7 @@
 ghost use Rattle.std.specs.Prelude.{Option, length};
 ghost use Rattle.tk_watch.specs.Keyed.{IsWithin};
 
-use super::given::{FIRST, ODD, SECOND, SEMAPHORE, THIRD, is_text_of};
+use super::given::{EARLY, FIRST, LATE, ODD, SECOND, SEMAPHORE, THIRD, is_text_of};
 use std::alloc::Global;
 use std::sync::Wait;
 use std::thread::Threads;
@@ -86,6 +86,7 @@ fn draws_on(
             typed: Typed::none(),
             resources: false,
             by_place: false,
+            recent: false,
         },
         lints: Lints::default(),
         canvas,
@@ -196,6 +197,55 @@ fn places_are_sorted_and_chosen(rt: HostRuntime) {
     assert!(rt; draws(rt.alloc(), &events, "", both.as_str(), 8));
     let second = [Bytes(ODD), key(b'g'), key(b'b'), key(b'j'), key(b'j'), DUE];
     assert!(rt; draws(rt.alloc(), &second, "", PLACES_BY_BUSY, 6));
+}
+
+// What places came to in all, and since the line that came 5.5 s before.
+const IN_ALL_AND_RECENT: &str = "by place, sorted by busy  ? shows the keys
+now 6.5 s  tasks 2: 0 polling, 0 scheduled, 2 idle, 0 closed  findings 0
+waiting  __  at most 0
+no finding now or earlier: 0 tasks wait
+ PLACE           NAME       OPEN WAIT      RAN  LONGEST  POLLS   WAITED  HELD UP
+>script:2:1      a             1    0 600.0 ms        -     40   2.0 ms        -
+ script:3:1      b             1    0 110.0 ms   1.0 ms     20   4.0 ms        -
+2 of 2 places
+
+by place, last 5.5 s, sorted by busy  ? shows the keys
+now 6.5 s  tasks 2: 0 polling, 0 scheduled, 2 idle, 0 closed  findings 0
+waiting  __  at most 0
+no finding now or earlier: 0 tasks wait
+ PLACE           NAME       OPEN WAIT      RAN  LONGEST  POLLS   WAITED  HELD UP
+>script:3:1      b             1    0  10.0 ms   1.0 ms     10   3.0 ms        -
+ script:2:1      a             1    0     0 ns        -      0     0 ns        -
+2 of 2 places
+
+";
+
+// One line alone, before which nothing was.
+const SO_FAR: &str = "by place, the whole time so far, sorted by held-up  ? shows the keys
+now 1.0 s  tasks 2: 0 polling, 0 scheduled, 2 idle, 0 closed  findings 0
+no finding now; who holds up others can't be seen: the lines span 0 ns, and it takes at least 100.0 ms
+ PLACE           NAME       OPEN WAIT      RAN  LONGEST  POLLS   WAITED  HELD UP
+>script:2:1      a             1    0 600.0 ms        -     40   2.0 ms        -
+ script:3:1      b             1    0 100.0 ms        -     10   1.0 ms        -
+2 of 2 places
+
+";
+
+#[test]
+fn a_key_shows_what_places_came_to_lately(rt: HostRuntime) {
+    let events = [
+        Bytes(EARLY),
+        Bytes(LATE),
+        key(b'R'),
+        key(b'g'),
+        key(b'b'),
+        DUE,
+        key(b'R'),
+        DUE,
+    ];
+    assert!(rt; draws(rt.alloc(), &events, "", IN_ALL_AND_RECENT, 8));
+    let first = [Bytes(EARLY), key(b'g'), key(b'R'), DUE];
+    assert!(rt; draws(rt.alloc(), &first, "", SO_FAR, 4));
 }
 
 const PLACE_OPENED: &str = "by place, sorted by held-up  ? shows the keys
@@ -432,6 +482,7 @@ Enter  shows all of the chosen task or place, or not any more
 1..9   shows the task of the finding that has this number
 /      shows only tasks that a text names, by their name or their file; Enter ends it
 g      shows places, or tasks again
+R      shows what places came to in the last 5 seconds, or in all again
 r      shows resources and async operations, or not any more
 space  pauses, or goes on
 ?      shows this, or not any more
@@ -466,6 +517,7 @@ no finding now; who holds up others can't be seen: the lines span 0 ns, and it t
 
 sorted by busy  ? shows the keys
 now 14 ns  tasks 1: 0 polling, 0 scheduled, 0 idle, 1 closed  findings 0
+waiting  __  at most 0
 no finding now; who holds up others can't be seen: the lines span 8 ns, and it takes at least 100.0 ms
   TASK STATE         BUSY    SCHED  POLLS  WAKES SELF LOCATION        NAME                 KIND
 0 of 0 tasks
@@ -525,6 +577,7 @@ fn ends<R: Threads + Wait + Clock + Copy + Send + Sync + Drop + 'static>(
             typed: Typed::none(),
             resources: false,
             by_place: false,
+            recent: false,
         },
         lints: Lints::default(),
         canvas: Canvas::Plain,

@@ -109,6 +109,7 @@ fn tasks_are_sorted_and_filtered(rt: HostRuntime) {
 
 // What a place's one task came to, which has left.
 const LEFT_SCREEN: &str = "now 15 ns  tasks 0: 0 polling, 0 scheduled, 0 idle, 0 closed  findings 0
+waiting  ___  at most 0
 no finding now; who holds up others can't be seen: the lines span 9 ns, and it takes at least 100.0 ms
  PLACE           NAME       OPEN WAIT      RAN  LONGEST  POLLS   WAITED  HELD UP
  script:2:1      a             0    0     0 ns        -      0     0 ns        -

@@ -1,8 +1,8 @@
 //! When screens are drawn.
 
 use super::given::{
-    FIRST, FIRST_SCREEN, Few, LATER, LATER_SCREEN, PLAIN, SECOND, SECOND_SCREEN, THIRD,
-    THIRD_SCREEN, comes_to,
+    AGAIN, AGAIN_SCREEN, FIRST, FIRST_SCREEN, Few, LATER, LATER_SCREEN, PLAIN, SECOND,
+    SECOND_SCREEN, THIRD, THIRD_SCREEN, comes_to,
 };
 use std::alloc::Global;
 use std::io;
@@ -88,6 +88,13 @@ fn a_stream_that_is_followed_goes_on_at_its_end(rt: HostRuntime) {
 fn where_there_is_no_finding_the_screen_says_how_many_wait(rt: HostRuntime) {
     let lines = [FIRST, LATER, b"", b"", b""];
     let screens = [FIRST_SCREEN, LATER_SCREEN];
+    assert!(rt; draws(rt.alloc(), lines, 9, 0, "", 0, &screens));
+}
+
+#[test]
+fn that_the_service_was_started_again_is_told(rt: HostRuntime) {
+    let lines = [FIRST, AGAIN, b"", b"", b""];
+    let screens = [FIRST_SCREEN, AGAIN_SCREEN];
     assert!(rt; draws(rt.alloc(), lines, 9, 0, "", 0, &screens));
 }
 

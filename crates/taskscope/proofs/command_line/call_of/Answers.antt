@@ -1,5 +1,5 @@
 use Rattle.std.proofs.Common.{ap, ap₂, ◌∙◌, codes, is_some, sym, [], unwrap_or}
-use Rattle.taskscope.specs.Requests.{asked_in, before_in, explains_in, file_in, filter_in, texts, title_in, to_in}
+use Rattle.taskscope.specs.Requests.{asked_in, before_in, explains_in, file_in, filter_in, texts, title_in, to_in, until_in}
 use Rattle.taskscope.proofs.ParseLemmas.{taken_words_ask}
 use Rattle.taskscope.proofs.command_line.call_of.Goals as goal
 
@@ -29,6 +29,9 @@ returns-clause-title c =
 pub returns-clause-before : goal.returns-clause-before
 returns-clause-before c =
     ap (λ b. unwrap_or b []) (ap before_in (sym c.in_ok-matches.ensures.found) ∙ sym c.before_in.ensures) ∙ sym c.text_or-2.ensures
+
+pub returns-clause-until : goal.returns-clause-until
+returns-clause-until c = ap until_in (sym c.in_ok-matches.ensures.found) ∙ sym c.until_in.ensures
 
 pub returns-clause-explains : goal.returns-clause-explains
 returns-clause-explains c = ap explains_in (sym c.in_ok-matches.ensures.found) ∙ sym c.explains_in.ensures

@@ -8,7 +8,8 @@ returns-clause-ok c =
     let to = c.in_ok-arg-2.ensures.shape c.text_arg-to.ensures.local ∙ ap₂ with_rule by c.text_arg-to.ensures.rule in
     let every = c.in_ok-arg-3.ensures.shape c.number_arg-every.ensures.local ∙ ap₂ with_rule to c.number_arg-every.ensures.rule in
     let follow = c.in_ok-arg-4.ensures.shape c.flag_arg-follow.ensures.local ∙ ap₂ with_rule every c.flag_arg-follow.ensures.rule in
-    c.in_ok-arg-5.ensures.shape c.span_arg-series.ensures.local ∙ ap₂ with_rule follow c.span_arg-series.ensures.rule
+    let series = c.in_ok-arg-5.ensures.shape c.span_arg-series.ensures.local ∙ ap₂ with_rule follow c.span_arg-series.ensures.rule in
+    c.in_ok-arg-6.ensures.shape c.until_arg-until.ensures.local ∙ ap₂ with_rule series c.until_arg-until.ensures.rule
 
 pub returns-clause-local : goal.returns-clause-local
 returns-clause-local c =
@@ -16,4 +17,5 @@ returns-clause-local c =
     let to = c.in_ok-arg-2.ensures.globals ∙ ap₂ (λ a b. a || b) by c.text_arg-to.ensures.local in
     let every = c.in_ok-arg-3.ensures.globals ∙ ap₂ (λ a b. a || b) to c.number_arg-every.ensures.local in
     let follow = c.in_ok-arg-4.ensures.globals ∙ ap₂ (λ a b. a || b) every c.flag_arg-follow.ensures.local in
-    c.in_ok-arg-5.ensures.globals ∙ ap₂ (λ a b. a || b) follow c.span_arg-series.ensures.local
+    let series = c.in_ok-arg-5.ensures.globals ∙ ap₂ (λ a b. a || b) follow c.span_arg-series.ensures.local in
+    c.in_ok-arg-6.ensures.globals ∙ ap₂ (λ a b. a || b) series c.until_arg-until.ensures.local

@@ -3,7 +3,7 @@ use Rattle.std.specs.Prelude.{option_and_then}
 use Rattle.std.specs.Str.Parse.{ParsesUnsigned, ExplainsUnsignedError, HasUnsignedDigitsIfOk}
 use Rattle.clap.specs.Matches.{found_of, one_text}
 use Rattle.clap.proofs.WalkLemmas.{one_text-rows}
-use Rattle.taskscope.specs.Requests.{number_of}
+use Rattle.taskscope.specs.Moments.{number_of}
 use Rattle.taskscope.proofs.Numbers.{number_read}
 use Rattle.taskscope.proofs.command_line.number_at.Goals as goal
 

@@ -5,9 +5,13 @@ use Rattle.taskscope.proofs.command_line.page_command.Goals as goal
 pub returns-clause-ok : goal.returns-clause-ok
 returns-clause-ok c =
     let polls = c.in_ok-arg.ensures.shape c.span_arg-long_poll.ensures.local ∙ ap₂ with_rule c.in_ok-view_command.ensures.ok c.span_arg-long_poll.ensures.rule in
-    c.in_ok-arg-2.ensures.shape c.text_arg-title.ensures.local ∙ ap₂ with_rule polls c.text_arg-title.ensures.rule
+    let titled = c.in_ok-arg-2.ensures.shape c.text_arg-title.ensures.local ∙ ap₂ with_rule polls c.text_arg-title.ensures.rule in
+    let until = c.in_ok-arg-3.ensures.shape c.until_arg-until.ensures.local ∙ ap₂ with_rule titled c.until_arg-until.ensures.rule in
+    c.in_ok-arg-4.ensures.shape c.later_arg-later.ensures.local ∙ ap₂ with_rule until c.later_arg-later.ensures.rule
 
 pub returns-clause-local : goal.returns-clause-local
 returns-clause-local c =
     let polls = c.in_ok-arg.ensures.globals ∙ ap₂ (λ a b. a || b) c.in_ok-view_command.ensures.local c.span_arg-long_poll.ensures.local in
-    c.in_ok-arg-2.ensures.globals ∙ ap₂ (λ a b. a || b) polls c.text_arg-title.ensures.local
+    let titled = c.in_ok-arg-2.ensures.globals ∙ ap₂ (λ a b. a || b) polls c.text_arg-title.ensures.local in
+    let until = c.in_ok-arg-3.ensures.globals ∙ ap₂ (λ a b. a || b) titled c.until_arg-until.ensures.local in
+    c.in_ok-arg-4.ensures.globals ∙ ap₂ (λ a b. a || b) until c.later_arg-later.ensures.local

@@ -1,8 +1,33 @@
-use Rattle.std.proofs.Common.{inl, inr, refl}
+use Rattle.std.proofs.Common.{List, ℕ, sym, subst, inl, ◌∙◌}
+use Rattle.std.specs.Option.{option_map}
+use Rattle.taskscope.specs.Program.{WatchesAtKeys}
+use Rattle.taskscope.proofs.Outcomes.{heard_until}
 use Rattle.taskscope.proofs.program.fulfil_of_file.Goals as goal
 
-pub returns-in-Err-clause-does : goal.returns-in-Err-clause-does
-returns-in-Err-clause-does g c = inr (c.tell_unopened.ensures, (refl, refl))
-
-pub returns-in-Show-clause-does : goal.returns-in-Show-clause-does
-returns-in-Show-clause-does g c = inl (c.in-Ok.file, (c.in-Ok.ensures, (g.S.File.Read.remaining c.view_explained-status.result.0, rw c.in-Show.is c.view_explained-status.ensures.does)))
+pub returns-in-Some-clause-does : goal.returns-in-Some-clause-does
+returns-in-Some-clause-does g c =
+    let call = c.args.call.now in
+    let file = c.in-Ok-open.file in
+    let given = g.S.File.Read.remaining file in
+    let old = g.O.Write.contents c.args.output.now in
+    let new = g.O.Write.contents c.watch_at_keys.new.output in
+    inl (
+      c.in-Ok.until,
+      (
+        c.in-Ok.ensures.ok,
+        (
+          file,
+          (
+            c.in-Ok-open.ensures,
+            (
+              given,
+              heard_until c.in-Ok.until g.S.File.Read.remaining (g.S.Sources.is_of c.args.sources.now call.before.now) c.args.terminal
+                  (option_map (λ f. f.now) call.filter) (option_map (λ p. p.now) call.to) (call.title.now, call.before.now) call.request c.in-Some.options
+                  given given old new (g.P.Place.texts c.args.place.now) c.watch_at_keys.result
+                  (sym c.at_keys.ensures ∙ c.in-Some.is)
+                  (subst (λ (text : List ℕ). WatchesAtKeys c.in-Some.options text c.args.terminal old new c.watch_at_keys.result) c.filter_text-text.ensures c.watch_at_keys.ensures.does),
+            ),
+          ),
+        ),
+      ),
+    )

@@ -14,7 +14,9 @@ returns c =
     let polls = words_in_hundredths (codes "polls") (rate_in_hundredths spans.before x.before.polls) (rate_in_hundredths spans.after x.after.polls) in
     let ran = words_of (codes "ran") (rate spans.before x.before.ran) (rate spans.after x.after.ran) in
     let waited = words_of (codes "waited") (rate spans.before x.before.waited) (rate spans.after x.after.waited) in
+    let held = words_of (codes "held-up") (rate spans.before x.before.held) (rate spans.after x.after.held) in
     both (subst (Puts _ _) c.as_bytes.ensures.value c.in_ok-put.ensures)
-    (words_put polls (ran ++ (waited ++ site)) c.in_ok-put_polls.ensures
-    (words_put ran (waited ++ site) c.in_ok-put_rates.ensures
-    (words_put waited site c.in_ok-put_rates-2.ensures c.in_ok-put_site.ensures)))
+    (words_put polls (ran ++ (waited ++ (held ++ site))) c.in_ok-put_polls.ensures
+    (words_put ran (waited ++ (held ++ site)) c.in_ok-put_rates.ensures
+    (words_put waited (held ++ site) c.in_ok-put_rates-2.ensures
+    (words_put held site c.in_ok-put_rates-3.ensures c.in_ok-put_site.ensures))))

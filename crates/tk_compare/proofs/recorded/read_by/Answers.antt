@@ -16,4 +16,4 @@ returns-in-Ok g c =
     let timed = c.args.watched.now.first.second in
     let shown : is_some timed.changes ≡ true = is_shown true timed c.requires.times in
     records_all c.in_ok-read_stream.ensures c.args.watched.now.second.limits it.first.first it.first.second it.second c.in-Ok.recorded
-    (λ seen h. (h.0.0, subst (λ b. FollowsTimes b seen it.first.second) shown h.0.1, h.1.0, h.1.1)) c.in-Ok.ensures.span c.in-Ok.ensures.sites c.in-Ok.ensures.times c.in-Ok.ensures.findings
+    (λ seen h. (h.0.0, subst (λ b. FollowsTimes b seen it.first.second) shown h.0.1, h.1.0, h.1.1)) c.in-Ok.ensures.span c.in-Ok.ensures.sites c.in-Ok.ensures.times c.in-Ok.ensures.held c.in-Ok.ensures.findings

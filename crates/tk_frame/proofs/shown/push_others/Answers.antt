@@ -8,4 +8,5 @@ returns c =
     (both c.in_ok-push_plain-3.ensures
     (both c.in_ok-push_plain-4.ensures
     (both c.in_ok-push_plain-5.ensures
-    c.in_ok-push_plain-6.ensures))))
+    (both c.in_ok-push_plain-6.ensures
+    c.in_ok-push_plain-7.ensures)))))

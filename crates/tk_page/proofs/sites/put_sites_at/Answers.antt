@@ -11,5 +11,5 @@ loop-rank-init c = nothing c.args.paper.now
 pub loop-rank-preserved : goal.loop-rank-preserved
 loop-rank-preserved c =
     let zero : Rank = record { calm = false; below = 0; place = 0 } in
-    next_of (site_row_at c.args.sites.now.first) c.args.ranks.now c.loop-rank.rank-index zero (omega arith) c.loop-rank.invariant
+    next_of (site_row_at c.args.times.now c.args.held.now c.args.sites.now.first) c.args.ranks.now c.loop-rank.rank-index zero (omega arith) c.loop-rank.invariant
     (c.in_ok-put_site_at.ensures)

@@ -6,4 +6,4 @@ use Rattle.tk_page.proofs.sites.put_sites_at.Given as goal
 
 -- the rows so far
 abbrev pub invariant-loop-rank : goal.invariant-loop-rank
-invariant-loop-rank l = Writes l.initial.paper l.paper (flat_map (site_row_at l.sites.first) (take l.rank-index l.ranks))
+invariant-loop-rank l = Writes l.initial.paper l.paper (flat_map (site_row_at l.times l.held l.sites.first) (take l.rank-index l.ranks))

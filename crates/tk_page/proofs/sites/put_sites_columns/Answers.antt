@@ -10,6 +10,9 @@ returns c =
     (then c.in_ok-put_column-5.ensures
     (then c.in_ok-put_column-6.ensures
     (then c.in_ok-put_column-7.ensures
+    (then c.in_ok-put_times_columns.ensures
     (then c.in_ok-put_column-8.ensures
     (then c.in_ok-put_column-9.ensures
-    (then c.in_ok-put_column-10.ensures c.in_ok-put.ensures)))))))))
+    (then c.in_ok-put_column-10.ensures
+    (then c.in_ok-put_column-11.ensures
+    (then c.in_ok-put_column-12.ensures c.in_ok-put.ensures))))))))))))

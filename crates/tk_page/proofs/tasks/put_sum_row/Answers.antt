@@ -5,5 +5,6 @@ pub returns : goal.returns
 returns c =
     rw (c.watched.ensures) at
     (then c.in_ok-put_height.ensures
-    (then c.in_ok-put_sum.ensures
-    (then c.in_ok-put_axis.ensures c.in_ok-put.ensures)))
+    (then c.in_ok-put_whom_legend.ensures
+    (then c.in_ok-put_picture.ensures
+    (then c.in_ok-put_axis.ensures c.in_ok-put.ensures))))

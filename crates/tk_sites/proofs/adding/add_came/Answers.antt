@@ -5,7 +5,8 @@ use Rattle.tk_stream.specs.Tables.{TablesView, task_id, task_with}
 use Rattle.tk_stream.specs.declared.tables.task.Task.{Task}
 use Rattle.tk_sites.specs.Adding.{AreThere}
 use Rattle.tk_series.specs.Limited.{limited, with_one}
-use Rattle.tk_sites.specs.Site.{room, site_of}
+use Rattle.tk_odd.specs.Places.{place_of}
+use Rattle.tk_sites.specs.Site.{room}
 use Rattle.tk_series.proofs.FoldLemmas.{item_more, items_all}
 use Rattle.tk_sites.proofs.adding.add_came.Goals as goal
 
@@ -28,10 +29,10 @@ loop-id-preserved g c = λ before tasks is ids there.
     ∙ ap (λ (ns : List ℕ). task_with (get_or ns i id) there-now) ids
     ∙ at-place c.args.tables.now tasks i id there (subst (λ (ns : List ℕ). i < length ns) ids c.loop-id-test.true) in
     c.in_ok-add_came_one.ensures
-    ∙ ap₂ (λ o s. option_map_or (λ (t : Task). with_one g.V.Added.plus (site_of t.info) c.args.came s) o s) here (c.loop-id.invariant before tasks is ids there)
-    ∙ sym (item_more room g.V.Added.plus (λ (t : Task). (site_of t.info, c.args.came)) before tasks i)
+    ∙ ap₂ (λ o s. option_map_or (λ (t : Task). with_one g.V.Added.plus (place_of t.info) c.args.came s) o s) here (c.loop-id.invariant before tasks is ids there)
+    ∙ sym (item_more room g.V.Added.plus (λ (t : Task). (place_of t.info, c.args.came)) before tasks i)
 
 pub returns : goal.returns
 returns g c = λ before tasks is ids there.
     c.loop-id.invariant before tasks is ids there
-    ∙ items_all room g.V.Added.plus (λ (t : Task). (site_of t.info, c.args.came)) before tasks c.loop-id.id-index _ (ap length ids ∙ length-map tasks task_id) c.loop-id-test.false
+    ∙ items_all room g.V.Added.plus (λ (t : Task). (place_of t.info, c.args.came)) before tasks c.loop-id.id-index _ (ap length ids ∙ length-map tasks task_id) c.loop-id-test.false

@@ -1,6 +1,7 @@
 use Rattle.std.proofs.Common.{ap, sym, ◌∙◌, slice_get}
 use Rattle.std.specs.Option.{option_map_or}
-use Rattle.tk_sites.specs.Site.{room, site_of}
+use Rattle.tk_odd.specs.Places.{place_of}
+use Rattle.tk_sites.specs.Site.{room}
 use Rattle.tk_series.specs.Limited.{with_one}
 use Rattle.tk_sites.specs.Sites.{there_entry}
 use Rattle.tk_sites.specs.Sums.{plus, there}
@@ -12,7 +13,7 @@ loop-place-preserved c = λ before is.
     let tasks = c.args.tables.now.tasks in
     let place = c.loop-place.place in
     c.in_ok-add_there_at.ensures
-    ∙ ap (λ s. option_map_or (λ t. with_one plus (site_of t.info) (there t.row) s) (slice_get tasks place) s) (c.loop-place.invariant before is)
+    ∙ ap (λ s. option_map_or (λ t. with_one plus (place_of t.info) (there t.row) s) (slice_get tasks place) s) (c.loop-place.invariant before is)
     ∙ sym (item_more room plus there_entry before tasks place)
 
 pub returns : goal.returns

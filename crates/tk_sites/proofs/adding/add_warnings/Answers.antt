@@ -4,7 +4,8 @@ use Rattle.std.specs.Prelude.{flat_map}
 use Rattle.std.proofs.lemmas.List.{take_all}
 use Rattle.tk_stream.specs.Tables.{task_with}
 use Rattle.tk_series.specs.Limited.{limited, with_one}
-use Rattle.tk_sites.specs.Site.{room, site_of}
+use Rattle.tk_odd.specs.Places.{place_of}
+use Rattle.tk_sites.specs.Site.{room}
 use Rattle.tk_sites.specs.Sites.{warned_entries}
 use Rattle.tk_sites.specs.Sums.{plus, warned}
 use Rattle.tk_sites.specs.Warned.{one_warning, warned_task}
@@ -19,7 +20,7 @@ loop-warning-preserved c = λ before is.
     let tables = c.args.tables.now in
     let w = c.warning-item.result in
     c.in_ok-add_warning.ensures
-    ∙ ap (λ s. option_map_or (λ t. with_one plus (site_of t.info) (warned (one_warning w)) s) (task_with (warned_task w) tables.tasks) s) (c.loop-warning.invariant before is)
+    ∙ ap (λ s. option_map_or (λ t. with_one plus (place_of t.info) (warned (one_warning w)) s) (task_with (warned_task w) tables.tasks) s) (c.loop-warning.invariant before is)
     ∙ warned_more tables before c.args.warnings.now c.loop-warning.warning-index w c.loop-warning-test.true c.warning-item.is
 
 pub returns : goal.returns

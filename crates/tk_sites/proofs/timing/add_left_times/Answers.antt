@@ -4,7 +4,8 @@ use Rattle.std.proofs.lemmas.Option.{slice_get_read}
 use Rattle.tk_client.specs.declared.change.LeftTask.{LeftTask}
 use Rattle.tk_series.specs.Limited.{limited, with_one}
 use Rattle.tk_series.proofs.FoldLemmas.{item_more, items_all, so_far}
-use Rattle.tk_sites.specs.Site.{room, site_of}
+use Rattle.tk_odd.specs.Places.{place_of}
+use Rattle.tk_sites.specs.Site.{room}
 use Rattle.tk_sites.specs.TimedSites.{left_times}
 use Rattle.tk_sites.specs.Times.{plus_times, times_of}
 use Rattle.tk_sites.proofs.timing.add_left_times.Goals as goal
@@ -19,7 +20,7 @@ loop-one-preserved c = λ before is.
     let here : slice_get c.args.tasks.now i ≡ Some one = slice_get_read c.args.tasks.now _ i one refl c.loop-one-test.true c.one-item.is in
     let s = so_far room plus_times left_times before c.args.tasks.now i in
     c.in_ok-add_left_one.ensures
-    ∙ ap (with_one plus_times (site_of one.task.info) (times_of one.times)) (c.loop-one.invariant before is)
+    ∙ ap (with_one plus_times (place_of one.task.info) (times_of one.times)) (c.loop-one.invariant before is)
     ∙ ap (λ (o : Option LeftTask). option_map_or (λ (x : LeftTask). with_one plus_times (left_times x).0 (left_times x).1 s) o s) (sym here)
     ∙ sym (item_more room plus_times left_times before c.args.tasks.now i)
 

@@ -5,7 +5,7 @@ use Rattle.tk_watch.proofs.watching.watch_by.Goals as goal
 
 pub loop-init : goal.loop-init
 loop-init g c = record {
-  watching = starts c.args.screen.now (g.R.Read.remaining c.args.reader.now) (g.W.Write.contents c.args.writer.now) c.args.course.now c.requires;
+  watching = starts c.args.screen.now (g.R.Read.remaining c.args.reader.now) (g.W.Write.contents c.args.writer.now) c.args.course.now (g.P.Pace.said c.args.pace.now) c.requires;
   few = omega arith;
 }
 
@@ -13,5 +13,6 @@ pub returns-in-None : goal.returns-in-None
 returns-in-None g c =
     let given = g.R.Read.remaining c.args.reader.now in
     let old = g.W.Write.contents c.args.writer.now in
-    subst (λ next. Steps c.args.screen.now given (g.R.Read.remaining c.step.new.reader) (Ok next) c.step.new.course old (g.W.Write.contents c.step.new.writer)) c.in-None.is
-    (c.in_ok-next.ensures.steps given old c.loop.invariant.watching)
+    let said = g.P.Pace.said c.args.pace.now in
+    subst (λ next. Steps c.args.screen.now given (g.R.Read.remaining c.step.new.reader) (Ok next) c.step.new.course old (g.W.Write.contents c.step.new.writer) said (g.P.Pace.said c.step.new.pace)) c.in-None.is
+    (c.in_ok-next.ensures.steps given old said c.loop.invariant.watching)

@@ -6,7 +6,8 @@ use Rattle.tk_client.specs.declared.change.LeftTask.{LeftTask}
 use Rattle.tk_reading.specs.Shown.{last_shown}
 use Rattle.tk_series.specs.Limited.{limited}
 use Rattle.tk_sites.specs.Adding.{left_as_shown}
-use Rattle.tk_sites.specs.Site.{room, site_of}
+use Rattle.tk_odd.specs.Places.{place_of}
+use Rattle.tk_sites.specs.Site.{room}
 use Rattle.tk_sites.specs.Sums.{plus}
 use Rattle.tk_sites.specs.declared.sites.Sites.{Sites}
 use Rattle.tk_sites.specs.declared.sums.Sums.{Sums}
@@ -20,5 +21,5 @@ returns c = λ shown leads h.
     let now : Timed = (c.args.tables.now, leads.times_after) in
     noted shown before now c.args.change.now leads.is refl c.task_count.ensures.distinct.tasks c.args.self.now new c.add_came.new.sites h
     (λ bs tasks e ids there. c.in_ok-add_came.ensures bs tasks e (c.came.ensures ∙ ids) there
-    ∙ ap (λ (v : Sums). limited room plus (bs ++ map (λ (t : Task). (site_of t.info, v)) tasks)) c.came-one.ensures)
+    ∙ ap (λ (v : Sums). limited room plus (bs ++ map (λ (t : Task). (place_of t.info, v)) tasks)) c.came-one.ensures)
     (λ bs e. c.in_ok-add_left.ensures bs e ∙ ap (λ (xs : List LeftTask). limited room plus (bs ++ map left_as_shown xs)) c.left.ensures)

@@ -3,7 +3,7 @@ use Rattle.tk_odd.specs.Diagnosis.{standing_of}
 use Rattle.tk_odd.specs.declared.limits.Limits.{Limits}
 use Rattle.tk_frame.specs.Places.{places_in}
 use Rattle.tk_sites.specs.Sites.{sites_until}
-use Rattle.tk_watch.specs.Odd.{limits_of}
+use Rattle.tk_watch.specs.Recent.{limits_of}
 use Rattle.tk_watch.proofs.seen.Seen.places.Goals as goal
 
 pub returns : goal.returns

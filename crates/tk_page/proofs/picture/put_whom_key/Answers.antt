@@ -1,0 +1,8 @@
+use Rattle.tk_paper.proofs.PutLemmas.{then}
+use Rattle.tk_page.proofs.picture.put_whom_key.Goals as goal
+
+pub returns : goal.returns
+returns c =
+    rw c.as_slice.ensures.value at
+    (then c.in_ok-put.ensures
+    (then c.in_ok-put_site_text.ensures c.in_ok-put-2.ensures))

@@ -1,0 +1,5 @@
+use Rattle.tk_paper.proofs.PutLemmas.{then}
+use Rattle.tk_page.proofs.sites.put_times_columns.Goals as goal
+
+pub returns : goal.returns
+returns c = then c.in_ok-put_column.ensures (then c.in_ok-put_column-2.ensures c.in_ok-put_column-3.ensures)
