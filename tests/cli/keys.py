@@ -21,7 +21,7 @@ SECONDS = 20
 ASKED = termios.ICANON | termios.ECHO
 # No wrapping, and the alternate screen; and both as they were.
 TAKES, GIVES = "\x1b[?7l\x1b[?1049h", "\x1b[?1049l\x1b[?7h"
-ASKS_SIZE = "\x1b[18t"
+ASKS_SIZE = "\x1b7\x1b[9999;9999H\x1b[6n\x1b8"
 
 
 class Shell:

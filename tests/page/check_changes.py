@@ -48,15 +48,21 @@ def cells_of(streams, sides):
     return cells + [f"{time_of(old)} → {time_of(new)}{ratio(old, new)}" for old, new in times]
 
 
+def changed_by(streams, sums):
+    """How much of a second changed at a place: for how long its tasks ran and waited, and others waited for them."""
+    rates = [[stream.rate(some[word]) for word in RATES] for stream, some in zip(streams, sums)]
+    return min(sum(abs(old - new) for old, new in zip(*rates)), TOP)
+
+
 def rows_of(streams):
-    """The rows that are wanted, by change, and how many places are the same."""
-    rows = {change: [] for change in CHANGES}
+    """The rows of all places, those that changed most first, with what is the same among them."""
+    rows = []
     for name, sides in both(streams[0].places, streams[1].places).items():
         sums = [{word: total(side, word) for word in ("polls", *RATES)} for side in sides]
         shares = [{word: (s.rate(some[word]), some[word] // max(some["polls"], 1)) for word in TIMES} for s, some in zip(streams, sums)]
         change = change_of(*shares, sides, WORDS)
-        rows[change].append([name, change, *cells_of(streams, sides)])
-    return rows
+        rows.append((-changed_by(streams, sums), [name, change, *cells_of(streams, sides)]))
+    return [row for _, row in sorted(rows, key=lambda ranked: ranked[0])]
 
 
 def findings_of(streams):
@@ -75,7 +81,7 @@ def waiting(streams):
 
 def said(streams):
     rows, found = rows_of(streams), findings_of(streams)
-    n = {change: len(rows[change]) for change in rows}
+    n = {change: sum(row[1] == change for row in rows) for change in CHANGES}
     f = {standing: len(found[standing]) for standing in found}
     verdict = "worse" if n["worse"] + f["new"] else "better" if n["better"] + f["gone"] else "same"
     places = f"{n['worse']} {'place is' if n['worse'] == 1 else 'places are'} worse, {n['better']} better, {n['new']} new, {n['gone']} gone, {n['same']} the same. "
@@ -106,7 +112,7 @@ def check(text, paths, streams):
     table = element_of(elements, "table", "id", "changes")
     body = next(e for e in table.iter() if name_of(e) == "tbody")
     rows = [[text_of(cell) for cell in row if name_of(cell) in ("th", "td")] for row in body]
-    wanted = [row for change in CHANGES[:-1] for row in rows_of(streams)[change]]
+    wanted = [row for row in rows_of(streams) if row[1] != "same"]
     assert rows == wanted, next(((row, want) for row, want in zip(rows, wanted) if row != want), (len(rows), len(wanted)))
 
 

@@ -110,12 +110,16 @@ def grouped(number):
 
 
 # A time, rounded down.
+# What stands between a number and its unit.
+NO_BREAK = "\u00a0"
+
+
 def time_of(ns):
     for unit, size in (("s", 10**9), ("ms", 10**6), ("µs", 10**3)):
         if ns >= size:
             tenths = ns * 10 // size
-            return f"{tenths // 10}.{tenths % 10} {unit}" if tenths < 1000 else f"{grouped(tenths // 10)} {unit}"
-    return f"{ns} ns"
+            return f"{tenths // 10}.{tenths % 10}{NO_BREAK}{unit}" if tenths < 1000 else f"{grouped(tenths // 10)}{NO_BREAK}{unit}"
+    return f"{ns}{NO_BREAK}ns"
 
 
 def value_of(value):
@@ -163,6 +167,19 @@ def check_steps(strip, stats):
     starts = [step[0] for step in steps]
     assert starts == sorted(starts) and all(len(step) == 5 and max(step[1:3]) <= 1000 for step in steps), steps
     assert sum(step[3] for step in steps) <= stats["wakes"] and sum(step[4] for step in steps) <= stats["self_wakes"], (steps, stats)
+    check_peaks(strip.get("aria-label"), steps)
+
+
+def share_of(thousandths):
+    return f"{thousandths // 10}{NO_BREAK}%" if thousandths >= 100 else f"{thousandths // 10}.{thousandths % 10}{NO_BREAK}%"
+
+
+# In words a strip says when the task was busiest and waited most: in the first step with the greatest share, if that isn't 0.
+def check_peaks(words, steps):
+    for kind, part in (("Busiest", 1), ("Waited most", 2)):
+        most = max((step[part] for step in steps), default=0)
+        said = re.search(rf"\. {kind} between (.*?) and (.*?): (.*?{NO_BREAK}%)", words)
+        assert (said.group(3) if said else None) == (share_of(most) if most else None), (words, most)
 
 
 def check_waits(elements, tables, start):
@@ -355,7 +372,7 @@ def link_to(task, tables):
 
 def check_cards(elements, tables, findings):
     counts = [text_of(e) for e in elements if e.get("class") == "count"]
-    assert counts == ([grouped(len(findings))] if findings else []), (counts, findings)
+    assert counts == ([count_of(len(findings), "finding")] if findings else []), (counts, findings)
     cards = [e for e in elements if name_of(e) == "li"]
     said = [(e.get("class"), [text_of(small) for small in e.iter() if name_of(small) == "small"], links_of(e)) for e in cards]
     wanted = [(CLASSES[kind], ["now" if now else "earlier"], link_to(task, tables)) for kind, now, task, _ in findings[:CARDS]]

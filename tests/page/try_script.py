@@ -1,8 +1,9 @@
 #!/usr/bin/python3
-"""Opens pages in a browser without a window: the page's own script runs under its policy and a stranger's doesn't; each column of
-numbers sorts both ways; the filter hides and shows; a pointer and keys tell the steps of a strip, and choose a span, which the numbers
-are then of; the time of day stands in the head, if moments are those of a clock; what is asked for stands in the address, and a link to
-a hidden row shows it. If the page has places, their columns sort, too, and a click on a place shows its tasks.
+"""Opens pages in a browser without a window: the page's own script runs under its policy and a stranger's doesn't; each column of numbers
+sorts both ways, and a key that reaches its head shows the hint; the filter hides and shows; a pointer and keys tell the steps of a strip,
+and choose a span, which the numbers are then of; the time of day stands in the head, if moments are those of a clock; what is asked for
+stands in the address, and a link to a hidden row shows it. If the page has places, their columns sort, too, and a click on a place shows
+its tasks.
 
 Usage: try_script.py PAGE [PAGE ..]
 
@@ -52,6 +53,10 @@ press("ArrowDown");
 seen.push(document.activeElement === strip && / wakes?(, .* of its own)?$/.test(step.textContent));
 press("Escape");
 seen.push(step.hidden && document.querySelectorAll(".at").length === 0);
+heads[3].querySelector("button").focus();
+seen.push(!step.hidden && step.textContent === heads[3].title);
+heads[3].querySelector("button").blur();
+seen.push(step.hidden);
 seen.push(rows().every((row) => row.querySelector("a.own-link").getAttribute("href") === "#" + row.id));
 document.title = seen.every((x) => x) + " " + seen.length;
 }</script></body>"""

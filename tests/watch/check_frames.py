@@ -10,6 +10,7 @@
     check_frames.py odd STREAM FRAMES                 the last screen tells what is odd about all lines
     check_frames.py places STREAM FRAMES COLUMN       it shows the places, with what their tasks came to, those of most in the column first
     check_frames.py recent STREAM SCREEN COLUMN COLUMNS   a terminal of so many columns shows what places came to in the last 5 seconds
+    check_frames.py times STREAM SCREEN               what is shown of a task has its histograms
 
 Each but `some` looks at what a screen tells of findings, too: tests/odd/plain_findings.py reckons these.
 """
@@ -108,10 +109,15 @@ def calm(findings, tables, span):
     return f"no finding now{'' if findings else ' or earlier'}: {len(times)} {'task waits' if len(times) == 1 else 'tasks wait'}{longest}"
 
 
+def marks(counts):
+    """A mark of eight levels for each number."""
+    most = max(counts)
+    return "".join("_.:-=+*#"[math.ceil(7 * count / most) if most else 0] for count in counts)
+
+
 def course(counts):
     """How many tasks waited at each of the last lines."""
-    most = max(counts)
-    return "waiting  " + "".join("_.:-=+*#"[math.ceil(7 * count / most) if most else 0] for count in counts) + f"  at most {most}"
+    return f"waiting  {marks(counts)}  at most {max(counts)}"
 
 
 def count_waiting(tables):
@@ -348,6 +354,51 @@ def check_recent(stream, path, column, columns):
     same([re.sub("^>", " ", line) for line in screen[start : start + len(rows)]], rows)
 
 
+# ---- one task
+
+BUCKETS = 14
+
+
+def not_passed(longest, counts, percent):
+    """What so many of a hundred times don't pass, by the buckets of their histogram."""
+    seen = [sum(counts[: bucket + 1]) for bucket in range(BUCKETS)]
+    if not seen[-1]:
+        return "-"
+    bucket = next(bucket for bucket in range(BUCKETS) if percent * seen[-1] <= 100 * seen[bucket])
+    return duration(min(longest, 2 ** (14 + bucket)) if bucket < BUCKETS - 1 else longest)
+
+
+def histogram(word, longest, filled):
+    counts = [dict(map(tuple, filled)).get(bucket, 0) for bucket in range(BUCKETS)]
+    told = [
+        (f"median {word}", not_passed(longest, counts, 50)),
+        (f"p99 {word}", not_passed(longest, counts, 99)),
+        (f"longest {word}", duration(longest)),
+        (f"{word} times", f"{marks(counts)}  from under 16 us to over 67 ms, each twice the one before"),
+    ]
+    return [f"{label:<12} {value}" for label, value in told]
+
+
+def times_of(stream):
+    """The last histograms of each task, by its id."""
+    times = {}
+    with open(stream, encoding="ascii") as file:
+        for line in map(json.loads, file):
+            times.update((id_text(one["id"]), one) for one in line.get("task_times", ()))
+    return times
+
+
+def check_times(stream, path):
+    with open(path, encoding="ascii") as file:
+        screen = file.read().split("\n")
+    task = next((line.removeprefix("TASK ") for line in screen if line.startswith("TASK ")), None)
+    one = times_of(stream).get(task) or sys.exit(f"no task with a histogram is shown: {task}")
+    wanted = histogram("poll", one["longest"], one["counts"])
+    wanted += histogram("wait", one["longest_wait"], one["waits"]) if "waits" in one else []
+    start = next((at for at, line in enumerate(screen) if line.startswith("median poll")), len(screen))
+    same(screen[start : start + len(wanted)], wanted)
+
+
 def cut(lines, columns):
     return [line[:columns].rstrip() for line in lines]
 
@@ -377,7 +428,7 @@ def check_keyed(stream, path, column, columns, lines, pages=0):
     check_shown(screen, tasks_of(tables, column), rows, int(pages) * rows)
 
 
-CHECKS = {"keyed": check_keyed, "odd": check_odd, "sorted": check_sorted, "some": check_some, "places": check_places, "recent": check_recent, "rising": check_rising, "last": check_last, "terminal": check_terminal}
+CHECKS = {"keyed": check_keyed, "odd": check_odd, "sorted": check_sorted, "some": check_some, "places": check_places, "recent": check_recent, "rising": check_rising, "last": check_last, "terminal": check_terminal, "times": check_times}
 
 if len(sys.argv) < 4 or sys.argv[1] not in CHECKS:
     sys.exit(__doc__)

@@ -289,7 +289,7 @@ abbrev later_rule : Rule
 later_rule = file_rule (codes "AFTER") 2 refl refl
 
 abbrev page_rules : List Rule
-page_rules = long_poll_rule ∷ title_rule ∷ until_rule ∷ later_rule ∷ last_rules
+page_rules = long_poll_rule ∷ title_rule ∷ until_rule ∷ later_rule ∷ explain_rule ∷ last_rules
 
 abbrev lint_rules : List Rule
 lint_rules = long_poll_rule ∷ long_wait_rule ∷ findings_rule ∷ by_rule ∷ until_rule ∷ explain_rule ∷ last_rules
@@ -546,7 +546,7 @@ last_keeps : AllKeep last_rules
 last_keeps = (keeps_without (codes "help"), tt)
 
 page_keeps : AllKeep page_rules
-page_keeps = (keeps_without (codes "long-poll"), (keeps_without (codes "title"), (keeps_without (codes "until"), (keeps_without (codes "AFTER"), last_keeps))))
+page_keeps = (keeps_without (codes "long-poll"), (keeps_without (codes "title"), (keeps_without (codes "until"), (keeps_without (codes "AFTER"), (keeps_explain, last_keeps)))))
 
 lint_keeps : AllKeep lint_rules
 lint_keeps = (keeps_without (codes "long-poll"), (keeps_without (codes "long-wait"), (keeps_findings, (keeps_without (codes "by"), (keeps_without (codes "until"), (keeps_explain, last_keeps))))))
@@ -803,7 +803,7 @@ page_named options some = page_asks_of options (lints_in options) some
 page_asks : (words : List Text) → TakenAsks (codes "page") words
 page_asks words none named =
     page_named (options_in (entered there (Some (codes "page", words))))
-    (lints_there _ (numbers_there page_rules (sound_span (codes "long-poll") refl refl, (sound_text (codes "title") refl refl, (sound_text (codes "until") refl refl, (sound_file (codes "AFTER") 2 refl refl, (sound_help, tt))))) page_keeps _ words refl none))
+    (lints_there _ (numbers_there page_rules (sound_span (codes "long-poll") refl refl, (sound_text (codes "title") refl refl, (sound_text (codes "until") refl refl, (sound_file (codes "AFTER") 2 refl refl, (sound_flag (codes "explain") refl refl, (sound_help, tt)))))) page_keeps _ words refl none))
 
 watch_named : (options : List Row) → names_nothing (Some (codes "watch", options)) ≡ false → IsSome (asked_in (Some (codes "watch", options)))
 watch_named options named = watch_asks_of options (column_at options) (keys_named options _ named)

@@ -114,11 +114,12 @@ lint_command = explaining (spans_command (codes "lint"))
 abbrev pub later_argument : Rule
 later_argument = new_rule (codes "AFTER")
 
--- the command that draws a page, with the options of what a long poll is, of a title, and of a moment, or one of what changed since an earlier stream
+-- the command that draws a page, with the options of what a long poll is, of a title, of a moment, and of a fault that is explained, or one of what
+-- changed since an earlier stream
 abbrev pub page_command : App
 page_command =
     let titled = with_rule (with_rule (view_command (codes "page")) (span_option (codes "long-poll"))) (text_option (codes "title")) in
-    with_rule (with_rule titled until_option) later_argument
+    explaining (with_rule (with_rule titled until_option) later_argument)
 
 -- the command that watches a stream, with the options of what its screens show
 abbrev pub shows_command : App

@@ -378,7 +378,7 @@ fn lint_command<'a>(alloc: Global, long_about: &'a str) -> Result<Command<'a>, E
     Ok(lint.arg(explain)?)
 }
 
-// The page, with what a long poll is, its title, and up to when it shows a stream.
+// The page, with what a long poll is, its title, up to when it shows a stream, and whether a fault is explained.
 fn page_command<'a>(alloc: Global) -> Result<Command<'a>, Error>
     ensures ok { IfOk result (λ c. app_of c ≡ spec.page_command) }
     ensures local { IfOk result (λ c. (fields_of c).has_globals ≡ false) }
@@ -388,12 +388,14 @@ fn page_command<'a>(alloc: Global) -> Result<Command<'a>, Error>
     let title = text_arg(alloc, TITLE, "TEXT", TITLE_HELP);
     let until = until_arg(alloc);
     let later = later_arg(alloc);
+    let explain = flag_arg(alloc, EXPLAIN, EXPLAIN_HELP);
     Ok(
         view_command(alloc, "page", PAGE_ABOUT, PAGE_LONG_ABOUT)?
             .arg(long_poll)?
             .arg(title)?
             .arg(until)?
-            .arg(later)?,
+            .arg(later)?
+            .arg(explain)?,
     )
 }
 

@@ -183,8 +183,8 @@ Both times count what still lasts. A wait is counted from its begin if the strea
 program does, and otherwise from the task's last wake.
 
 With `--keys` you go through all tasks, find some, sort by another column, pause, look at one task or at a finding's,
-and quit: `?` shows the keys. The screen follows the terminal's size, but not within tmux. At the end of the stream it
-stays until `q`.
+and quit: `?` shows the keys. The screen follows the terminal's size. If nothing came for three seconds, it says so. At
+the end of the stream it stays until `q`.
 What the terminal showed before is back once the watch has ended or was stopped.
 
 A last line of the stream without its line end is ignored. At a fault the screen of what stood before it is drawn.";

@@ -8,7 +8,7 @@ ghost use Rattle.tk_report.specs.TimedViews.{count_of};
 ghost use Rattle.tk_client.specs.Warnings.{default_lints};
 ghost use Rattle.taskscope.specs.Requests as spec;
 ghost use Rattle.taskscope.specs.Requests.{AsksForFile, AsksForHelp, AsksForInput, AsksForVersion, IsMistake, IsPlain, asked, before_text, file_text, filter_of, is_mistake, plain_metrics, plain_watch, refusals, texts, title_text, to_of, until_of};
-ghost use Rattle.taskscope.specs.Program.{AddsUpStream, ComparesBefore, ComparesStreams, ComparesWith, Does, DoesOfFile, DoesUntil, FindsInStream, IsBeforeEnd, IsMoment, KeepsStream, RunsScript, ShowsRecorded, ViewsStream, WatchesAtKeys, WatchesStream, filter_text, found_status, is_noted, moment_at, page_status, rows_by, screen_by, status_at, status_of, view_in, view_status};
+ghost use Rattle.taskscope.specs.Program.{AddsUpStream, ComparesBefore, ComparesStreams, ComparesWith, Does, DoesOfFile, DoesUntil, FindsInStream, IsBeforeEnd, IsMoment, KeepsStream, PagesStream, RunsScript, ShowsRecorded, ViewsStream, WatchesAtKeys, WatchesStream, filter_text, found_status, is_noted, moment_at, page_status, rows_by, screen_by, status_at, status_of, view_in, view_status};
 
 use crate::command_line::{Call, CompareOptions, MetricsOptions, Request, WatchOptions, call_of};
 use crate::help::lint_long_about;
@@ -285,6 +285,40 @@ fn tell_page<E: Write>(outcome: Result<u64, AppFault>, faults: &mut E) -> u8
         Ok(_warnings) => DONE,
         Err(stop) => tell_fault(stop, faults),
     }
+}
+
+// Draws a stream as a page, and answers how many warnings its tables have, or the fault, and the status.
+fn draw_page<I: Read, O: Write, E: Write>(
+    alloc: Global,
+    limits: Limits,
+    title: &str,
+    input: &mut I,
+    output: &mut O,
+    faults: &mut E,
+) -> (Result<u64, AppFault>, u8)
+    ensures does { PagesStream title.now limits (I.remaining input.old) (I.remaining input.new) (O.contents output.old) (O.contents output.new) result.1 }
+    ensures status { (result.1 ≤ FAULT) ⊎ (result.1 ≡ WARNED) }
+{
+    let drawn = view_page_with(alloc, input, output, limits, title);
+    (drawn, tell_page(drawn, faults))
+}
+
+// Draws the stream of an input as a page, and answers that input, as its reads left it, and the status. What is explained of a fault stands below it.
+fn draw_explained<I: Read, O: Write, E: Write>(
+    alloc: Global,
+    limits: Limits,
+    title: &str,
+    input: I,
+    output: &mut O,
+    faults: &mut E,
+) -> (I, u8)
+    ensures does { PagesStream title.now limits (I.remaining input) (I.remaining result.0) (O.contents output.old) (O.contents output.new) result.1 }
+    ensures status { (result.1 ≤ FAULT) ⊎ (result.1 ≡ WARNED) }
+{
+    let mut stream = Kept::last_lines(alloc, input);
+    let (outcome, status) = draw_page(alloc, limits, title, &mut stream, output, faults);
+    let _ = explain_stream(&stream, outcome, faults);
+    (stream.into_reader(), status)
 }
 
 // Every name has the text of a filter that is not there.
@@ -594,10 +628,10 @@ fn fulfil<
             let (_, status) = add_up(alloc, view, &lints, wait_ms, times, input, output, faults);
             status
         }
-        Request::Page { limits } => tell_page(
-            view_page_with(alloc, input, output, limits, call.title),
-            faults,
-        ),
+        Request::Page { limits } => {
+            let (_, status) = draw_page(alloc, limits, call.title, input, output, faults);
+            status
+        }
         Request::Watch(options) => {
             let text = filter_text(call.filter);
             watch(rt, alloc, &options, text, terminal, input, output, faults)
@@ -685,6 +719,9 @@ fn fulfil_explained<
         } = request
         {
             return add_up_explained(alloc, view, &lints, wait_ms, times, input, output, faults);
+        }
+        if let Request::Page { limits } = request {
+            return draw_explained(alloc, limits, call.title, input, output, faults);
         }
     }
     let status = fulfil(

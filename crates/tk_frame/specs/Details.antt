@@ -1,22 +1,21 @@
 -- All that is told of one task.
-use Rattle.std.specs.Prelude.{◌-◌, ℕ, List, [], ◌∷◌, ◌++◌, codes, decimal, Option, Some, None}
+use Rattle.std.specs.Prelude.{◌-◌, ◌==◌, ◌&&◌, ℕ, Bool, false, is_none, if◌then◌else◌, List, [], ◌∷◌, ◌++◌, flat_map, codes, decimal, Option, Some, None}
 use Rattle.std.specs.Option.{option_map_or}
 use Rattle.tk_ids.specs.Ids.{id_text}
 use Rattle.tk_core.specs.declared.task.row.TaskRow.{TaskRow}
+use Rattle.tk_stream.specs.declared.tables.op.Op.{Op}
 use Rattle.tk_stream.specs.declared.tables.task.Task.{Task}
 use Rattle.tk_stream.specs.Tables.{TablesView, task_with}
 use Rattle.tk_stream.specs.Spelling.{kind_text}
-use Rattle.tk_report.specs.Report.{task_state}
+use Rattle.tk_stream.specs.Times.{TaskTimes}
+use Rattle.tk_report.specs.Report.{op_state, task_state}
 use Rattle.tk_screen.specs.Screens.{LineView}
 use Rattle.tk_screen.specs.Texts.{duration_text, share_text}
 use Rattle.tk_core.specs.Lasting.{busy_until, sched_until, waits_for}
 use Rattle.tk_frame.specs.Findings.{OddView, owns_part}
-use Rattle.tk_frame.specs.Lines.{heading, location_text, plain, word}
+use Rattle.tk_frame.specs.Histograms.{times_part}
+use Rattle.tk_frame.specs.Lines.{field, heading, location_text, plain}
 use Rattle.tk_frame.specs.PlaceLines.{known_text}
-
--- a line: what it tells, and its value
-abbrev pub field : List ℕ → List ℕ → LineView
-field label value = plain (word 12 label ++ value)
 
 -- how long ago a moment was, where there was one
 abbrev pub ago_text : ℕ → Option ℕ → List ℕ
@@ -56,18 +55,45 @@ life_part now x = field (codes "clones") (decimal x.clones)
     ∷ field (codes "created") (ago_text now (Some x.created))
     ∷ field (codes "closed") (ago_text now x.dropped) ∷ []
 
--- what was told of a task once, and all its statistics
-abbrev pub task_part : ℕ → Task → List LineView
-task_part now t = info_part t ++ (polls_part now t.row ++ (wakes_part now t.row ++ life_part now t.row))
+-- all its statistics
+abbrev pub row_part : ℕ → TaskRow → List LineView
+row_part now x = polls_part now x ++ (wakes_part now x ++ life_part now x)
 
--- all that is told of a task: this, and the findings about its place
-abbrev pub details_of : TablesView → OddView → Task → List LineView
-details_of tables odd t = task_part tables.now t ++ owns_part tables.tasks t odd
+-- ---- what it waits for
+
+-- a task polls an operation that is open
+abbrev pub is_polled_by : ℕ → Op → Bool
+is_polled_by id o = is_none o.row.dropped && option_map_or (λ n. n == id) o.row.task false
+
+-- of which resource
+abbrev pub resource_words : ℕ → List ℕ
+resource_words id = codes " on resource " ++ (id_text id ++ codes ", ")
+
+-- an operation: the call that made it, its resource, its state, and how long ago it was first polled
+abbrev pub op_words : ℕ → Op → List ℕ
+op_words now o =
+    o.info.source ++ (resource_words o.info.resource ++ (op_state o.row ++ (codes ", first polled " ++ ago_text now o.row.first_poll)))
+
+-- the same, if this task polls it
+abbrev pub own_op : ℕ → ℕ → Op → List LineView
+own_op now id o = if is_polled_by id o then field (codes "operation") (op_words now o) ∷ [] else []
+
+-- the operations that a task polls, in table order
+abbrev pub ops_part : TablesView → ℕ → List LineView
+ops_part tables id = flat_map (own_op tables.now id) tables.ops
+
+-- ---- all
+
+-- all that is told of a task: what was told of it once, the operations that it polls, the findings about its place with what to do, its histograms, and
+-- its statistics
+abbrev pub details_of : TablesView → List TaskTimes → OddView → Task → List LineView
+details_of tables times odd t =
+    info_part t ++ (ops_part tables t.info.id ++ (owns_part tables.tasks t odd ++ (times_part times t.info.id ++ row_part tables.now t.row)))
 
 -- a task that isn't there any more
 abbrev pub gone_part : ℕ → List LineView
 gone_part id = heading (codes "TASK " ++ id_text id) ∷ plain (codes "it has left the stream") ∷ []
 
 -- all that is told of the task of an id
-abbrev pub details_at : ℕ → TablesView → OddView → List LineView
-details_at id tables odd = option_map_or (details_of tables odd) (task_with id tables.tasks) (gone_part id)
+abbrev pub details_at : ℕ → TablesView → List TaskTimes → OddView → List LineView
+details_at id tables times odd = option_map_or (details_of tables times odd) (task_with id tables.tasks) (gone_part id)

@@ -119,7 +119,12 @@ size_by lines columns = record { columns = columns; lines = lines }
 abbrev pub size_act : Numbers → Action
 size_act n = if (n.first == 8) && (nat_lt 0 n.second && nat_lt 0 n.third) then acts.Resize (size_by n.second n.third) else acts.Nothing
 
--- what a sequence asks for, by its numbers and its last byte: an arrow's A or B, H of Home, F of End, ~ or t
+-- a line and a column: a terminal's answer to where its cursor stands, which who asks for its size has sent to the last of both. Line 1 is that of F3
+-- beside another key
+abbrev pub corner_act : Numbers → Action
+corner_act n = if nat_lt 1 n.second && nat_lt 0 n.third then acts.Resize (size_by n.second n.third) else acts.Nothing
+
+-- what a sequence asks for, by its numbers and its last byte: an arrow's A or B, H of Home, F of End, ~, t or R; and w after how many seconds nothing came
 abbrev pub code_act : Numbers → ℕ → Action
 code_act n key =
     if key == 65 then acts.Move steps.Above else
@@ -127,7 +132,9 @@ code_act n key =
     (if key == 72 then acts.Move steps.First else
     (if key == 70 then acts.Move steps.Last else
     (if key == 126 then numbered_act n.third else
-    (if key == 116 then size_act n else acts.Nothing)))))
+    (if key == 116 then size_act n else
+    (if key == 82 then corner_act n else
+    (if key == 119 then acts.Silence n.third else acts.Nothing)))))))
 
 abbrev pub no_numbers : Numbers
 no_numbers = record { first = 0; second = 0; third = 0 }
@@ -215,6 +222,7 @@ first_asked query = record {
   paused = false;
   quits = false;
   size = None;
+  silent = 0;
   begun = begun.Nothing;
   typed = query.typed;
   types = false;
@@ -267,6 +275,10 @@ ended asked = record asked { quits = true }
 abbrev pub resized : Size → Asked → Asked
 resized size asked = record asked { size = Some size }
 
+-- nothing has come for so many seconds
+abbrev pub silent_for : ℕ → Asked → Asked
+silent_for seconds asked = record asked { silent = seconds }
+
 -- another text is typed, and the first of the tasks is chosen that it names
 abbrev pub filtered : Typed → Bool → Asked → Asked
 filtered t types asked = record asked { typed = t; types = types; chosen = 0; shown = shown.Tables }
@@ -286,6 +298,7 @@ acted_alone asked acts.Pause = turned asked
 acted_alone asked acts.Explain = explained asked
 acted_alone asked acts.Quit = ended asked
 acted_alone asked (acts.Resize size) = resized size asked
+acted_alone asked (acts.Silence seconds) = silent_for seconds asked
 acted_alone asked acts.Filter = filtered nothing true asked
 acted_alone asked (acts.Put byte) = filtered (with_byte byte asked.typed) true asked
 acted_alone asked acts.Erase = filtered (without_last asked.typed) true asked

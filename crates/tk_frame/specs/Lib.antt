@@ -24,6 +24,8 @@ pub mod PlaceView
 pub mod Frames
 -- Inner: no public clause cites these
 pub mod Walks
+-- What is told of the histograms of one task
+pub mod Histograms
 -- All that is told of one task
 pub mod Details
 -- What keys ask a screen for

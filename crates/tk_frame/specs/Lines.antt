@@ -52,6 +52,10 @@ heading text = record { style = styles.Heading; text = text }
 abbrev pub warned : List ℕ → LineView
 warned text = record { style = styles.Warning; text = text }
 
+-- a line about one task: what it tells, and its value
+abbrev pub field : List ℕ → List ℕ → LineView
+field label value = plain (word 12 label ++ value)
+
 -- ---- the first line
 
 -- how many tasks there are, and how many in each state

@@ -1,8 +1,10 @@
 -- The lines of a screen that keys ask for.
-use Rattle.std.specs.Prelude.{◌+◌, ◌-◌, ◌==◌, ◌&&◌, ℕ, List, [], ◌∷◌, ◌++◌, take, drop, slice_get, flat_map, codes, Bool, true, false, Option, Some, None, if◌then◌else◌}
+use Rattle.std.specs.Prelude.{◌+◌, ◌-◌, ◌*◌, ◌==◌, ◌&&◌, ℕ, List, [], ◌∷◌, ◌++◌, take, drop, slice_get, flat_map, codes, Bool, true, false, Option, Some, None, if◌then◌else◌}
 use Rattle.std.specs.Option.{option_map_or}
+use Rattle.tk_core.specs.Lists.{capped}
 use Rattle.tk_stream.specs.declared.tables.task.Task.{Task}
 use Rattle.tk_stream.specs.Tables.{TablesView}
+use Rattle.tk_stream.specs.Times.{TaskTimes}
 use Rattle.tk_screen.specs.Screens.{LineView, screen_text}
 use Rattle.tk_screen.specs.Texts.{duration_text}
 use Rattle.tk_screen.specs.declared.canvas.Canvas.{Canvas}
@@ -82,10 +84,17 @@ pause_text behind = codes "  paused" ++ behind_word behind
 abbrev pub paused_word : Bool → ℕ → List ℕ
 paused_word paused behind = if paused then pause_text behind else []
 
--- the line that stands above a screen: whether places are shown, and what they came to in the last while, how they or tasks are sorted, whether it is paused and how far it then lies behind, and
--- which key shows the others
+-- for how long nothing has come, where that was said
+abbrev pub silent_text : ℕ → List ℕ
+silent_text seconds = codes "  nothing came for " ++ duration_text (capped (seconds * 1000000000))
+
+abbrev pub silent_word : ℕ → List ℕ
+silent_word seconds = if seconds == 0 then [] else silent_text seconds
+
+-- the line that stands above a screen: whether places are shown, and what they came to in the last while, how they or tasks are sorted, whether it is paused and how far it then lies behind, for
+-- how long nothing came, and which key shows the others
 abbrev pub asked_text : Asked → Option ℕ → ℕ → List ℕ
-asked_text asked time behind = by_word asked.by_place ++ (recent_word (tells_recent asked) time ++ (codes "sorted by " ++ (column_word (sorted_by asked.by_place asked.sort) ++ (order_word asked.rising ++ (filter_word asked.types asked.typed ++ (paused_word asked.paused behind ++ codes "  ? shows the keys"))))))
+asked_text asked time behind = by_word asked.by_place ++ (recent_word (tells_recent asked) time ++ (codes "sorted by " ++ (column_word (sorted_by asked.by_place asked.sort) ++ (order_word asked.rising ++ (filter_word asked.types asked.typed ++ (paused_word asked.paused behind ++ (silent_word asked.silent ++ codes "  ? shows the keys")))))))
 
 -- what each key does
 abbrev pub keys_part : List LineView
@@ -142,16 +151,17 @@ abbrev pub choice_of : ℕ → Canvas → Query → TablesView → OddView → L
 choice_of chosen canvas query tables odd = choice_by (table_rows canvas query odd 1) chosen canvas query tables odd
 
 -- what is shown, below the first line
-abbrev pub shown_part : Shown → Asked → Canvas → Query → TablesView → OddView → List LineView
-shown_part shown.Tables asked canvas query tables odd = choice_of asked.chosen canvas (query_by query asked) tables odd
-shown_part shown.Keys asked canvas query tables odd = keys_part
-shown_part (shown.Task id) asked canvas query tables odd = details_at id tables odd
-shown_part (shown.Place n) asked canvas query tables odd = place_view n tables odd
+abbrev pub shown_part : Shown → Asked → Canvas → Query → TablesView → List TaskTimes → OddView → List LineView
+shown_part shown.Tables asked canvas query tables times odd = choice_of asked.chosen canvas (query_by query asked) tables odd
+shown_part shown.Keys asked canvas query tables times odd = keys_part
+shown_part (shown.Task id) asked canvas query tables times odd = details_at id tables times odd
+shown_part (shown.Place n) asked canvas query tables times odd = place_view n tables odd
 
--- the lines of a screen that keys ask for, of tables that lie so far behind what came
-abbrev pub lines_of : Asked → ℕ → Canvas → Query → TablesView → OddView → List LineView
-lines_of asked behind canvas query tables odd = plain (asked_text asked (recent_time odd) behind) ∷ shown_part asked.shown asked canvas query tables odd
+-- the lines of a screen that keys ask for, of tables and histograms that lie so far behind what came
+abbrev pub lines_of : Asked → ℕ → Canvas → Query → TablesView → List TaskTimes → OddView → List LineView
+lines_of asked behind canvas query tables times odd =
+    plain (asked_text asked (recent_time odd) behind) ∷ shown_part asked.shown asked canvas query tables times odd
 
 -- the screen of such tables that keys ask for, as it is written: of the size that the terminal has
-abbrev pub asked_screen : Canvas → Query → OddView → Asked → ℕ → TablesView → List ℕ
-asked_screen canvas query odd asked behind tables = screen_text (canvas_by canvas asked) (lines_of asked behind (canvas_by canvas asked) query tables odd)
+abbrev pub asked_screen : Canvas → Query → OddView → Asked → ℕ → TablesView → List TaskTimes → List ℕ
+asked_screen canvas query odd asked behind tables times = screen_text (canvas_by canvas asked) (lines_of asked behind (canvas_by canvas asked) query tables times odd)

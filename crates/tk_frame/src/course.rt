@@ -8,7 +8,8 @@ use std::alloc::{AllocError, Global};
 use std::fmt::Write;
 use tk_screen::{Line, Style};
 
-fn greatest(numbers: &[u64]) -> u64
+/// The greatest of numbers, or 0.
+pub(crate) fn greatest(numbers: &[u64]) -> u64
     ensures { result ≡ spec.greatest numbers.now }
 {
     let [first, rest @ ..] = numbers else {
@@ -48,7 +49,8 @@ fn put_mark(out: &mut String, most: u64, n: u64) -> Result<(), AllocError>
     put_text(out, level_mark(level_of(most, n)))
 }
 
-fn put_marks(out: &mut String, most: u64, waits: &[u64]) -> Result<(), AllocError>
+/// Puts a mark for each number, of eight levels, where the greatest is this.
+pub(crate) fn put_marks(out: &mut String, most: u64, waits: &[u64]) -> Result<(), AllocError>
     ensures { OnOk result (Puts (string_bytes out.old) (string_bytes out.new) (flat_map (spec.mark_of most) waits.now)) }
 {
     for n in waits {

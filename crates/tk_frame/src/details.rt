@@ -1,28 +1,31 @@
 //! All that is told of one task.
-ghost use Rattle.std.specs.Prelude.{◌≡◌, ◌++◌, ◌∷◌, [], codes, decimal, IfOk, OnOk, string_bytes};
+ghost use Rattle.std.specs.Prelude.{◌≡◌, ◌==◌, ◌++◌, ◌∷◌, [], codes, decimal, false, slice_get, IfOk, OnOk, string_bytes};
+ghost use Rattle.std.specs.Option.{option_map_or};
 ghost use Rattle.tk_ids.specs.Ids.{id_text};
 ghost use Rattle.tk_screen.specs.Texts.{Puts, duration_text, share_text};
 ghost use Rattle.tk_frame.specs.Details as spec;
 ghost use Rattle.tk_frame.specs.Lines as texts;
 ghost use Rattle.tk_frame.specs.PlaceLines.{known_text};
 
-use crate::cells::{put_location, put_word};
+use crate::cells::{put_location, put_text, put_word};
+use crate::histograms::push_times;
 use crate::odd::Odd;
 use crate::odd_lines::push_owns;
 use crate::place_lines::put_known;
 use std::alloc::{AllocError, Global};
 use std::fmt::Write;
+use tk_client::Times;
 use tk_core::TaskRow;
-use tk_ids::{Location, TaskId};
-use tk_report::{kind_word, task_state};
+use tk_ids::{Location, ResourceId, TaskId};
+use tk_report::{kind_word, op_state, task_state};
 use tk_screen::{Line, Style, put_duration, put_share};
-use tk_stream::{Tables, Task};
+use tk_stream::{Op, Tables, Task};
 
 // How wide what a line tells is.
 const WIDTH: usize = 12;
 
-// The text of a line, up to its value.
-fn label_text(alloc: Global, label: &str) -> Result<String, AllocError>
+/// The text of a line, up to its value.
+pub(crate) fn label_text(alloc: Global, label: &str) -> Result<String, AllocError>
     ensures { IfOk result (λ text. string_bytes text ≡ texts.word 12 label.now) }
 {
     let mut text = String::new(alloc);
@@ -36,7 +39,7 @@ fn push_text(
     label: &str,
     value: &str,
 ) -> Result<(), AllocError>
-    ensures { OnOk result (Puts lines.old.items lines.new.items (spec.field label.now value.now ∷ [])) }
+    ensures { OnOk result (Puts lines.old.items lines.new.items (texts.field label.now value.now ∷ [])) }
 {
     let mut text = label_text(alloc, label)?;
     text.push_str(value)?;
@@ -50,7 +53,7 @@ fn push_number(
     label: &str,
     value: u64,
 ) -> Result<(), AllocError>
-    ensures { OnOk result (Puts lines.old.items lines.new.items (spec.field label.now (decimal value) ∷ [])) }
+    ensures { OnOk result (Puts lines.old.items lines.new.items (texts.field label.now (decimal value) ∷ [])) }
 {
     let mut text = label_text(alloc, label)?;
     write!(text, "{value}")?;
@@ -58,13 +61,14 @@ fn push_number(
     Ok(())
 }
 
-fn push_time(
+/// Pushes a line with a time.
+pub(crate) fn push_time(
     lines: &mut Vec<Line>,
     alloc: Global,
     label: &str,
     nanos: u64,
 ) -> Result<(), AllocError>
-    ensures { OnOk result (Puts lines.old.items lines.new.items (spec.field label.now (duration_text nanos) ∷ [])) }
+    ensures { OnOk result (Puts lines.old.items lines.new.items (texts.field label.now (duration_text nanos) ∷ [])) }
 {
     let mut text = label_text(alloc, label)?;
     put_duration(&mut text, nanos)?;
@@ -78,7 +82,7 @@ fn push_known(
     label: &str,
     nanos: u64,
 ) -> Result<(), AllocError>
-    ensures { OnOk result (Puts lines.old.items lines.new.items (spec.field label.now (known_text nanos) ∷ [])) }
+    ensures { OnOk result (Puts lines.old.items lines.new.items (texts.field label.now (known_text nanos) ∷ [])) }
 {
     let mut text = label_text(alloc, label)?;
     put_known(&mut text, nanos)?;
@@ -93,7 +97,7 @@ fn push_share(
     part: u64,
     whole: u64,
 ) -> Result<(), AllocError>
-    ensures { OnOk result (Puts lines.old.items lines.new.items (spec.field label.now (share_text part whole) ∷ [])) }
+    ensures { OnOk result (Puts lines.old.items lines.new.items (texts.field label.now (share_text part whole) ∷ [])) }
 {
     let mut text = label_text(alloc, label)?;
     put_share(&mut text, part, whole)?;
@@ -107,7 +111,7 @@ fn push_location(
     label: &str,
     location: &Location,
 ) -> Result<(), AllocError>
-    ensures { OnOk result (Puts lines.old.items lines.new.items (spec.field label.now (texts.location_text location.now) ∷ [])) }
+    ensures { OnOk result (Puts lines.old.items lines.new.items (texts.field label.now (texts.location_text location.now) ∷ [])) }
 {
     let mut text = label_text(alloc, label)?;
     put_location(&mut text, location)?;
@@ -138,7 +142,7 @@ fn push_ago(
     now: u64,
     moment: Option<u64>,
 ) -> Result<(), AllocError>
-    ensures { OnOk result (Puts lines.old.items lines.new.items (spec.field label.now (spec.ago_text now moment) ∷ [])) }
+    ensures { OnOk result (Puts lines.old.items lines.new.items (texts.field label.now (spec.ago_text now moment) ∷ [])) }
 {
     let mut text = label_text(alloc, label)?;
     put_ago(&mut text, now, moment)?;
@@ -217,27 +221,122 @@ fn push_life(
     Ok(())
 }
 
-fn push_parts(lines: &mut Vec<Line>, alloc: Global, now: u64, task: &Task) -> Result<(), AllocError>
-    ensures { OnOk result (Puts lines.old.items lines.new.items (spec.task_part now task.now)) }
+fn push_row(lines: &mut Vec<Line>, alloc: Global, now: u64, row: &TaskRow) -> Result<(), AllocError>
+    ensures { OnOk result (Puts lines.old.items lines.new.items (spec.row_part now row.now)) }
 {
-    push_info(lines, alloc, task)?;
-    push_polls(lines, alloc, now, &task.row)?;
-    push_wakes(lines, alloc, now, &task.row)?;
-    push_life(lines, alloc, now, &task.row)?;
+    push_polls(lines, alloc, now, row)?;
+    push_wakes(lines, alloc, now, row)?;
+    push_life(lines, alloc, now, row)?;
     Ok(())
 }
+
+// ---- what it waits for
+
+fn is_of(task: Option<TaskId>, id: TaskId) -> bool
+    ensures { result ≡ option_map_or (λ n. n == id) task false }
+{
+    match task {
+        Some(task) => task.value() == id.value(),
+        None => false,
+    }
+}
+
+// Whether a task polls an operation that is open.
+fn is_polled_by(op: &Op, id: TaskId) -> bool
+    ensures { result ≡ spec.is_polled_by id op.now }
+{
+    op.row.dropped.is_none() && is_of(op.row.task, id)
+}
+
+fn put_resource(out: &mut String, id: ResourceId) -> Result<(), AllocError>
+    ensures { OnOk result (Puts (string_bytes out.old) (string_bytes out.new) (spec.resource_words id)) }
+{
+    write!(out, " on resource {id}, ")
+}
+
+fn put_op(out: &mut String, op: &Op, now: u64) -> Result<(), AllocError>
+    ensures { OnOk result (Puts (string_bytes out.old) (string_bytes out.new) (spec.op_words now op.now)) }
+{
+    put_text(out, op.info.source.as_str())?;
+    put_resource(out, op.info.resource)?;
+    put_text(out, op_state(&op.row))?;
+    put_text(out, ", first polled ")?;
+    put_ago(out, now, op.row.first_poll)?;
+    Ok(())
+}
+
+fn push_op(lines: &mut Vec<Line>, alloc: Global, op: &Op, now: u64) -> Result<(), AllocError>
+    ensures { OnOk result (Puts lines.old.items lines.new.items (texts.field (codes "operation") (spec.op_words now op.now) ∷ [])) }
+{
+    let mut text = label_text(alloc, "operation")?;
+    put_op(&mut text, op, now)?;
+    lines.push(Line::new(Style::Plain, text))?;
+    Ok(())
+}
+
+fn push_op_if(
+    lines: &mut Vec<Line>,
+    alloc: Global,
+    op: &Op,
+    now: u64,
+    id: TaskId,
+) -> Result<(), AllocError>
+    ensures { OnOk result (Puts lines.old.items lines.new.items (spec.own_op now id op.now)) }
+{
+    if is_polled_by(op, id) {
+        push_op(lines, alloc, op, now)
+    } else {
+        Ok(())
+    }
+}
+
+fn push_op_at(
+    lines: &mut Vec<Line>,
+    alloc: Global,
+    tables: &Tables,
+    id: TaskId,
+    place: usize,
+) -> Result<(), AllocError>
+    ensures { OnOk result (Puts lines.old.items lines.new.items (option_map_or (spec.own_op tables.now.now id) (slice_get tables.now.ops place) [])) }
+{
+    match tables.op_at(place) {
+        Some(op) => push_op_if(lines, alloc, op, tables.now(), id),
+        None => Ok(()),
+    }
+}
+
+// The operations that a task polls.
+fn push_ops(
+    lines: &mut Vec<Line>,
+    alloc: Global,
+    tables: &Tables,
+    id: TaskId,
+) -> Result<(), AllocError>
+    ensures { OnOk result (Puts lines.old.items lines.new.items (spec.ops_part tables.now id)) }
+{
+    for place in 0..tables.op_count() {
+        push_op_at(lines, alloc, tables, id, place)?;
+    }
+    Ok(())
+}
+
+// ---- all
 
 fn push_task(
     lines: &mut Vec<Line>,
     alloc: Global,
     tables: &Tables,
+    times: &Times,
     odd: &Odd,
     task: &Task,
 ) -> Result<(), AllocError>
-    ensures { OnOk result (Puts lines.old.items lines.new.items (spec.details_of tables.now odd.now task.now)) }
+    ensures { OnOk result (Puts lines.old.items lines.new.items (spec.details_of tables.now times.now odd.now task.now)) }
 {
-    push_parts(lines, alloc, tables.now(), task)?;
+    push_info(lines, alloc, task)?;
+    push_ops(lines, alloc, tables, task.info.id)?;
     push_owns(lines, alloc, tables, odd, task)?;
+    push_times(lines, alloc, times, task.info.id)?;
+    push_row(lines, alloc, tables.now(), &task.row)?;
     Ok(())
 }
 
@@ -258,19 +357,20 @@ fn push_gone(lines: &mut Vec<Line>, alloc: Global, id: TaskId) -> Result<(), All
     Ok(())
 }
 
-/// Pushes all that is told of the task of an id: what was told of it once, all its statistics, and the findings about its place, each
-/// with what to do. Or that it isn't there any more.
+/// Pushes all that is told of the task of an id: what was told of it once, the operations that it polls, the findings about its place, each with what to
+/// do, its histograms where the stream has some of it, and all its statistics. Or that it isn't there any more.
 pub(crate) fn push_details(
     lines: &mut Vec<Line>,
     alloc: Global,
     tables: &Tables,
+    times: &Times,
     odd: &Odd,
     id: TaskId,
 ) -> Result<(), AllocError>
-    ensures { OnOk result (Puts lines.old.items lines.new.items (spec.details_at id tables.now odd.now)) }
+    ensures { OnOk result (Puts lines.old.items lines.new.items (spec.details_at id tables.now times.now odd.now)) }
 {
     match tables.task(id) {
-        Some(task) => push_task(lines, alloc, tables, odd, task),
+        Some(task) => push_task(lines, alloc, tables, times, odd, task),
         None => push_gone(lines, alloc, id),
     }
 }

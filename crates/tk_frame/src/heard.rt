@@ -61,6 +61,8 @@ pub enum Action {
     Quit,
     /// The terminal has another size.
     Resize(Size),
+    /// Nothing has come for so many seconds: 0 once something came again.
+    Silence(usize),
     /// The tasks alone that a text names, which is typed from now on.
     Filter,
     /// A byte of this text.
@@ -196,7 +198,7 @@ fn byte_act(types: bool, key: u8) -> Action
     if types { typed_act(key) } else { key_act(key) }
 }
 
-// ---- keys of several bytes, and the terminal's size
+// ---- keys of several bytes, the terminal's size, and how long nothing came
 
 fn numbered_act(number: usize) -> Action
     ensures { result ≡ spec.numbered_act number }
@@ -225,6 +227,19 @@ fn size_act(numbers: Numbers) -> Action
     }
 }
 
+fn corner_act(numbers: Numbers) -> Action
+    ensures { result ≡ spec.corner_act numbers }
+{
+    if numbers.second > 1 && numbers.third > 0 {
+        Action::Resize(Size {
+            columns: numbers.third,
+            lines: numbers.second,
+        })
+    } else {
+        Action::Nothing
+    }
+}
+
 fn code_act(numbers: Numbers, key: u8) -> Action
     ensures { result ≡ spec.code_act numbers key }
 {
@@ -235,6 +250,8 @@ fn code_act(numbers: Numbers, key: u8) -> Action
         b'F' => Action::Move(Step::Last),
         b'~' => numbered_act(numbers.third),
         b't' => size_act(numbers),
+        b'R' => corner_act(numbers),
+        b'w' => Action::Silence(numbers.third),
         _ => Action::Nothing,
     }
 }

@@ -51,6 +51,8 @@ pub struct Asked {
     pub quits: bool,
     /// How large the terminal is, if it has said so since the start.
     pub size: Option<Size>,
+    /// For how many seconds nothing has come, if that was said; else 0.
+    pub silent: usize,
     /// What has come of a key that is more than one byte.
     pub begun: Begun,
     /// A text that names each task that is shown.
@@ -75,6 +77,7 @@ impl Asked {
             paused: false,
             quits: false,
             size: None,
+            silent: 0,
             begun: Begun::Nothing,
             typed: query.typed,
             types: false,
@@ -240,6 +243,15 @@ fn resized(size: Size, asked: Asked) -> Asked
     }
 }
 
+fn silent_for(seconds: usize, asked: Asked) -> Asked
+    ensures { result ≡ spec.silent_for seconds asked }
+{
+    Asked {
+        silent: seconds,
+        ..asked
+    }
+}
+
 // Another text is typed.
 fn filtered(typed: Typed, types: bool, asked: Asked) -> Asked
     ensures { result ≡ spec.filtered typed types asked }
@@ -275,6 +287,7 @@ fn acted_alone(asked: Asked, action: Action) -> Asked
         Action::Explain => explained(asked),
         Action::Quit => ended(asked),
         Action::Resize(size) => resized(size, asked),
+        Action::Silence(seconds) => silent_for(seconds, asked),
         Action::Filter => filtered(Typed::none(), true, asked),
         Action::Put(byte) => filtered(with_byte(byte, asked.typed), true, asked),
         Action::Erase => filtered(without_last(asked.typed), true, asked),
@@ -541,7 +554,9 @@ fn with_begun(begun: Begun, asked: Asked) -> Asked
 /// - Enter shows all of the chosen task or place, or no more; a digit shows the task of the finding that has this number.
 /// - `/` begins a text, and shows the tasks alone that it names. A backspace takes its last byte back, and Enter ends it.
 /// - `r` shows resources and async operations, or no more; a space pauses, or goes on; `?` shows what keys do, or no more; `q` ends the watch.
-/// - `ESC [ 8 ; LINES ; COLUMNS t` is no key: by it a terminal says how large it is.
+/// - `ESC [ 8 ; LINES ; COLUMNS t` is no key: by it a terminal says how large it is. So it does by `ESC [ LINES ; COLUMNS R`, from two lines on, once its
+///   cursor was sent to the last line and column.
+/// - `ESC [ SECONDS w` is none either: who reads the stream says by it for how long nothing came, and `ESC [ 0 w` that something came again.
 ///
 /// Any other asks for nothing. A key of several bytes counts with its last one.
 ///

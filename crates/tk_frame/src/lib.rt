@@ -14,6 +14,7 @@ mod course;
 mod details;
 mod findings;
 mod heard;
+mod histograms;
 mod items;
 mod keys;
 mod lines;

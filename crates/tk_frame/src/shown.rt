@@ -22,6 +22,7 @@ use crate::ranks::{states_in, walk};
 use crate::tasks::{chosen_line, task_heading};
 use crate::typed::Typed;
 use std::alloc::{AllocError, Global};
+use tk_client::Times;
 use tk_screen::{Canvas, Line, Ranked, Style, put_duration};
 use tk_stream::Tables;
 
@@ -128,6 +129,27 @@ fn put_paused(out: &mut String, paused: bool, behind: u64) -> Result<(), AllocEr
     Ok(())
 }
 
+// How many nanoseconds a second has.
+const SECOND: u64 = 1_000_000_000;
+
+fn put_silence(out: &mut String, seconds: usize) -> Result<(), AllocError>
+    ensures { OnOk result (Puts (string_bytes out.old) (string_bytes out.new) (spec.silent_text seconds)) }
+{
+    put_text(out, "  nothing came for ")?;
+    put_duration(out, (seconds as u64).saturating_mul(SECOND))?;
+    Ok(())
+}
+
+// Puts for how long nothing has come, where that was said.
+fn put_silent(out: &mut String, seconds: usize) -> Result<(), AllocError>
+    ensures { OnOk result (Puts (string_bytes out.old) (string_bytes out.new) (spec.silent_word seconds)) }
+{
+    if seconds == 0 {
+        return Ok(());
+    }
+    put_silence(out, seconds)
+}
+
 fn put_text_of(out: &mut String, typed: &Typed, end: &str) -> Result<(), AllocError>
     ensures { OnOk result (Puts (string_bytes out.old) (string_bytes out.new) (spec.named_by typed.now end.now)) }
 {
@@ -165,6 +187,7 @@ fn put_asked(
     put_text(out, order_word(asked.rising))?;
     put_filter(out, asked.types, &asked.typed)?;
     put_paused(out, asked.paused, behind)?;
+    put_silent(out, asked.silent)?;
     put_text(out, "  ? shows the keys")?;
     Ok(())
 }
@@ -438,11 +461,12 @@ fn push_shown(
     alloc: Global,
     canvas: Canvas,
     tables: &Tables,
+    times: &Times,
     odd: &Odd,
     query: &Query<'_>,
     asked: &Asked,
 ) -> Result<(), AllocError>
-    ensures { OnOk result (Puts lines.old.items lines.new.items (spec.shown_part asked.now.shown asked.now canvas query.now tables.now odd.now)) }
+    ensures { OnOk result (Puts lines.old.items lines.new.items (spec.shown_part asked.now.shown asked.now canvas query.now tables.now times.now odd.now)) }
 {
     let shown = asked.shown;
     match shown {
@@ -453,13 +477,13 @@ fn push_shown(
             push_tables(lines, alloc, canvas, tables, odd, &query, chosen, rows)
         }
         Shown::Keys => push_keys(lines, alloc),
-        Shown::Task(id) => push_details(lines, alloc, tables, odd, id),
+        Shown::Task(id) => push_details(lines, alloc, tables, times, odd, id),
         Shown::Place(number) => push_place_view(lines, alloc, tables, odd, number),
     }
 }
 
 /// The lines of a screen that keys ask for, of tables of which this is odd: how tasks or places are sorted, of which time it is told what places came to where not of all, whether it is paused and by how many nanoseconds these
-/// tables then lie behind what came, and then the tables as `frame` shows them, with the page of the chosen task; or what each key does; or all that is told of a task, or of a place. `docs/FORMATS.md` has
+/// tables then lie behind what came, and then the tables as `frame` shows them, with the page of the chosen task; or what each key does; or all that is told of a task, with its histograms among these, or of a place. `docs/FORMATS.md` has
 /// their words.
 ///
 /// It fails where there is no memory.
@@ -467,15 +491,16 @@ pub fn asked_frame(
     alloc: Global,
     canvas: Canvas,
     tables: &Tables,
+    times: &Times,
     odd: &Odd,
     query: &Query<'_>,
     asked: &Asked,
     behind: u64,
 ) -> Result<Vec<Line>, AllocError>
-    ensures { IfOk result (λ lines. lines.items ≡ spec.lines_of asked.now behind canvas query.now tables.now odd.now) }
+    ensures { IfOk result (λ lines. lines.items ≡ spec.lines_of asked.now behind canvas query.now tables.now times.now odd.now) }
 {
     let mut lines = Vec::new(alloc);
     push_asked(&mut lines, alloc, asked, odd.recent_time(), behind)?;
-    push_shown(&mut lines, alloc, canvas, tables, odd, query, asked)?;
+    push_shown(&mut lines, alloc, canvas, tables, times, odd, query, asked)?;
     Ok(lines)
 }

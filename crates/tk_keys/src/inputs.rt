@@ -7,7 +7,7 @@ use std::alloc::Global;
 use std::io::Read;
 use std::sync::Wait;
 use std::thread;
-use std::time::{Clock, Duration};
+use std::time::{Clock, Duration, Instant};
 use tk_reading::{Every, PIECE, Pace};
 use tk_watch::{Event, Source};
 
@@ -15,13 +15,18 @@ use tk_watch::{Event, Source};
 const REST: u64 = 50;
 
 // For how many milliseconds is waited at a time where no screen is to be drawn.
-const LONG: u64 = 60_000;
+const LONG: u64 = 1000;
+
+// After how many seconds without a piece of the stream it is said that nothing came: a service writes a line each second.
+const SILENT: u64 = 3;
 
 /// What a thread tells of what it has read.
 #[derive(Drop)]
 pub(crate) enum Message {
     /// Bytes of the stream.
     Piece(Vec<u8>),
+    /// The stream has ended.
+    Ended,
     /// The stream can't be read.
     Broken,
     /// A key.
@@ -30,12 +35,62 @@ pub(crate) enum Message {
     Gone,
 }
 
+// The bytes of `ESC [ SECONDS w`, the last one first, of which so many are still to be given.
+#[derive(Clone, Copy)]
+struct Words {
+    bytes: [u8; 8],
+    left: usize,
+}
+
+impl Words {
+    fn none() -> Words {
+        Words {
+            bytes: [0; 8],
+            left: 0,
+        }
+    }
+
+    fn put(&mut self, byte: u8) {
+        if self.left < self.bytes.len() {
+            self.bytes[self.left] = byte;
+            self.left += 1;
+        }
+    }
+
+    fn take(&mut self) -> Option<u8> {
+        if self.left == 0 || self.left > self.bytes.len() {
+            return None;
+        }
+        self.left -= 1;
+        Some(self.bytes[self.left])
+    }
+
+    // That nothing came for so many seconds. They have five digits.
+    fn of_silence(seconds: u64) -> Words {
+        let mut words = Words::none();
+        let mut digits = seconds.min(99_999);
+        words.put(b'w');
+        for _ in 0..5 {
+            words.put(b'0' + (digits % 10) as u8);
+            digits /= 10;
+        }
+        words.put(b'[');
+        words.put(27);
+        words
+    }
+}
+
 /// What threads tell, and when a screen is due of it.
 #[derive(Drop)]
 pub(crate) struct Inputs<'a, R: Wait + Clock> {
     rt: &'a R,
     from: Receiver<Message, Global>,
     pace: Every<'a, R>,
+    // When a piece of the stream came last, or none where the clock can't be read or the stream has ended.
+    came: Option<Instant>,
+    // For how many seconds it was last said that nothing came.
+    told: u64,
+    words: Words,
     // Whether anything came since the last screen was due.
     is_new: bool,
     // Whether a key came since then.
@@ -60,6 +115,9 @@ impl<'a, R: Wait + Clock> Inputs<'a, R> {
             rt,
             from,
             pace: Every::new(rt, every, false),
+            came: Instant::now(rt).ok(),
+            told: 0,
+            words: Words::none(),
             is_new: true,
             hurries: true,
         }
@@ -87,16 +145,52 @@ impl<'a, R: Wait + Clock> Inputs<'a, R> {
 }
 
 impl<R: Wait + Clock> Inputs<'_, R> {
-    // What a thread tells next, or nothing where a screen is due before.
+    // For how many seconds no piece has come.
+    fn silence(&self) -> u64 {
+        match &self.came {
+            Some(came) => match came.elapsed(self.rt) {
+                Ok(gone) => gone.as_secs(),
+                Err(_) => 0,
+            },
+            None => 0,
+        }
+    }
+
+    // Says for how long nothing has come, if that is long and a second more than was said.
+    fn note_silence(&mut self) {
+        let seconds = self.silence();
+        if seconds >= SILENT && seconds > self.told {
+            self.say_silence(seconds);
+        }
+    }
+
+    fn say_silence(&mut self, seconds: u64) {
+        self.told = seconds;
+        self.words = Words::of_silence(seconds);
+    }
+
+    // A piece came, or no more of them comes: it isn't said any more that nothing came.
+    fn end_silence(&mut self, came: Option<Instant>) {
+        self.came = came;
+        if self.told > 0 {
+            self.say_silence(0);
+        }
+    }
+
+    // What a thread tells next, or nothing where a screen is due before. How long nothing came is told as keys are.
     fn hear(&mut self) -> Option<Message> {
         for _ in self.rt.forever() {
+            if let Some(byte) = self.words.take() {
+                return Some(Message::Key(byte));
+            }
             if self.takes_turn() {
                 return None;
             }
             let patience = self.patience();
             match self.from.recv_timeout(self.rt, patience) {
+                Ok(Message::Ended) => self.end_silence(None),
                 Ok(message) => return Some(message),
-                Err(RecvTimeoutError::Timeout) => {}
+                Err(RecvTimeoutError::Timeout) => self.note_silence(),
                 Err(RecvTimeoutError::Disconnected) => return Some(Message::Gone),
             }
         }
@@ -109,9 +203,10 @@ impl<R: Wait + Clock> Source for Inputs<'_, R> {
         match self.hear() {
             Some(Message::Piece(bytes)) => {
                 self.is_new = true;
+                self.end_silence(Instant::now(self.rt).ok());
                 Some(put_piece(bytes.as_slice(), room))
             }
-            Some(Message::Broken) => Some(Event::Broken),
+            Some(Message::Broken | Message::Ended) => Some(Event::Broken),
             Some(Message::Key(key)) => {
                 self.is_new = true;
                 self.hurries = true;
@@ -152,7 +247,10 @@ pub(crate) fn send_pieces<R: Wait + Clock, I: Read>(
                 }
             }
             None if follows => thread::sleep(rt, Duration::from_millis(REST)),
-            None => return,
+            None => {
+                let _ = to.send(rt, Message::Ended);
+                return;
+            }
         }
     }
     unreachable!()

@@ -99,10 +99,11 @@ sorted(sites, asked.get('places'));
 show();
 const watched = Number(table.dataset.v), unit = Math.floor(watched / 1000) + 1;
 const grouped = (n) => n < 10000 ? String(n) : String(n).replace(/(?!^)(?=([0-9]{3})+$)/g, String.fromCharCode(0x202f));
+const noBreak = String.fromCharCode(160);
 const tenths = (n, few) => n < few ? (n / 10).toFixed(1) : grouped(Math.floor(n / 10));
 const time = (ns) => {
   const [word, size] = [['s', 1e9], ['ms', 1e6], [String.fromCharCode(181) + 's', 1e3]].find((one) => ns >= one[1]) || ['ns', 1];
-  return (size > 1 ? tenths(Math.floor(ns * 10 / size), 1000) : grouped(ns)) + ' ' + word;
+  return (size > 1 ? tenths(Math.floor(ns * 10 / size), 1000) : grouped(ns)) + noBreak + word;
 };
 const moment = (x, wide) => {
   if (x === 0 || x >= wide) return x === 0 ? '0' : time(watched);
@@ -112,7 +113,7 @@ const moment = (x, wide) => {
   }
   return time(x * unit);
 };
-const share = (n) => tenths(n, 100) + ' %';
+const share = (n) => tenths(n, 100) + noBreak + '%';
 const mean = (n) => grouped(Math.floor(n / 1000)) + '.' + Math.floor(n % 1000 / 100);
 const whom = [...table.querySelectorAll('.who')].map((who) => who.textContent);
 const told = (strip, step) => {
@@ -158,18 +159,19 @@ const sums = (strip, from, to) => {
   });
   return sum;
 };
-const put = (cell, v, text, share) => {
+const put = (cell, v, text, part) => {
   cell.dataset.v = Math.round(v);
-  cell.lastChild.textContent = text;
-  const box = cell.querySelector('svg.bar rect');
-  if (box) box.setAttribute('width', Math.min(100, Math.round(share / 10)));
+  if (part === undefined) return cell.replaceChildren(text);
+  cell.querySelector('rect').setAttribute('width', Math.min(100, Math.round(part / 10)));
+  cell.querySelector('svg').nextSibling.textContent = ' ' + text + ' ';
+  cell.querySelector('small').textContent = time(Math.round(v));
 };
 const narrow = (row) => {
   const strip = row.querySelector('svg[data-steps]');
   if (!strip) return;
-  const [busy, wait, wakes, own] = sums(strip, ...span), time = (span[1] - span[0]) * unit;
-  put(row.cells[3], busy * time / 1000, ' ' + share(busy), busy);
-  put(row.cells[4], wait * time / 1000, ' ' + share(wait), wait);
+  const [busy, wait, wakes, own] = sums(strip, ...span), long = (span[1] - span[0]) * unit;
+  put(row.cells[3], busy * long / 1000, share(busy), busy);
+  put(row.cells[4], wait * long / 1000, share(wait), wait);
   put(row.cells[7], wakes, grouped(Math.round(wakes)));
   put(row.cells[8], own, grouped(Math.round(own)));
 };
@@ -202,6 +204,19 @@ const reaches = (strip, from, to) => {
   const every = steps(strip), [a, b] = from < to ? [from, to] : [to, from];
   if (every[a]) choose(every[a][0], b + 1 < every.length ? every[b + 1][0] : wide(strip));
 };
+for (const button of document.querySelectorAll('th[title] button')) {
+  const hint = button.parentNode.title;
+  if (!hint) continue;
+  button.addEventListener('focus', () => {
+    if (!button.matches(':focus-visible')) return;
+    const box = button.getBoundingClientRect();
+    tip.textContent = hint;
+    tip.hidden = false;
+    tip.style.left = scrollX + Math.max(8, Math.min(box.left, document.documentElement.clientWidth - tip.offsetWidth - 8)) + 'px';
+    tip.style.top = scrollY + box.bottom + 4 + 'px';
+  });
+  button.addEventListener('blur', hide);
+}
 let reached = 0, anchor = null;
 const reach = (strip) => {
   for (const other of table.querySelectorAll('svg[tabindex]')) other.setAttribute('tabindex', '-1');

@@ -1,5 +1,6 @@
 -- Each piece of a page of two streams has its place, and the page ends between tags.
-use Rattle.std.proofs.Common.{◌≡◌, ℕ, List, nat_eq, nat_le, ◌||◌, Some, refl}
+use Rattle.std.proofs.Common.{◌≡◌, ℕ, List, nat_eq, nat_le, ◌||◌, [], slice_get, Option, Some, None, refl}
+use Rattle.std.specs.Option.{option_map_or}
 use Rattle.std.specs.Prelude.{codes}
 use Rattle.tk_compare.specs.Changes.{change_of, rate, rate_in_hundredths}
 use Rattle.tk_compare.specs.Found.{rank_of as standing_rank, standing_of}
@@ -11,6 +12,7 @@ use Rattle.tk_compare.specs.declared.found.Seen.{Seen}
 use Rattle.tk_compare.specs.declared.spent.Compared.{Compared}
 use Rattle.tk_paper.specs.Parts.{after_all}
 use Rattle.tk_paper.specs.declared.marks.Place.TheVariants as places
+use Rattle.tk_page.specs.declared.ranks.Rank.{Rank}
 use Rattle.tk_page.specs.Badges.{section}
 use Rattle.tk_page.specs.Changed as changed
 use Rattle.tk_page.proofs.Leading.{bits_to, cut_to, each_to, then_to}
@@ -57,29 +59,31 @@ changes_to spans x =
     (then_to (time_rate_to spans x.before.waited x.after.waited) (then_to (time_rate_to spans x.before.held x.after.held)
     (times_cell_to x.before.times.polls.longest x.after.times.polls.longest))))
 
-row_to : (margin : Margin) (spans : Spans) (rank : ℕ) (x : List ℕ × Compared) → Between (changed.row_if margin spans rank x)
+row_to : (margin : Margin) (spans : Spans) (x : List ℕ × Compared) → Between (changed.row_if margin spans x)
 unfolding after_all
-row_to margin spans rank (site, x) =
-    either (nat_eq (rank_of (change_of margin spans x)) rank)
-    (cut_to 4 refl (then_to (site_text_to site) (cut_to 4 refl (then_to (changes_to spans x) (record { is = refl }))))) none_between
+row_to margin spans (site, x) =
+    either (nat_eq (rank_of (change_of margin spans x)) 5) none_between
+    (cut_to 4 refl (then_to (site_text_to site) (cut_to 4 refl (then_to (changes_to spans x) (record { is = refl })))))
 
-rows_to : (margin : Margin) (spans : Spans) (compares : List (List ℕ × Compared)) → Between (changed.change_rows margin spans compares)
-rows_to margin spans compares =
-    then_to (each_to (changed.row_if margin spans 1) (row_to margin spans 1) compares) (then_to (each_to (changed.row_if margin spans 2) (row_to margin spans 2) compares)
-    (then_to (each_to (changed.row_if margin spans 3) (row_to margin spans 3) compares) (each_to (changed.row_if margin spans 4) (row_to margin spans 4) compares)))
+row_of_rank_to : (margin : Margin) (spans : Spans) (compares : List (List ℕ × Compared)) (rank : Rank) → Between (changed.row_of_rank margin spans compares rank)
+row_of_rank_to margin spans compares rank = by (slice_get compares rank.place)
+  where
+    by : (o : Option (List ℕ × Compared)) → Between (option_map_or (changed.row_if margin spans) o [])
+    by None = none_between
+    by (Some x) = row_to margin spans x
 
-sites_to : (margin : Margin) (spans : Spans) (compares : List (List ℕ × Compared)) → Between (changed.changes_section margin spans compares)
+sites_to : (margin : Margin) (spans : Spans) (compares : List (List ℕ × Compared)) (ranks : List Rank) → Between (changed.changes_section margin spans compares ranks)
 unfolding after_all
-sites_to margin spans compares =
+sites_to margin spans compares ranks =
     then_to (bits_to (section (codes "places") (codes "Places")) refl) (cut_to 2 refl (then_to (bits_to changed.change_caption refl)
-    (then_to (bits_to changed.change_columns refl) (then_to (rows_to margin spans compares) (record { is = refl })))))
+    (then_to (bits_to changed.change_columns refl) (then_to (each_to (changed.row_of_rank margin spans compares) (row_of_rank_to margin spans compares) ranks) (record { is = refl })))))
 
 -- a page that begins between tags ends between tags
-pub change_parts_to : (title path : List ℕ) (margin : Margin) (spans : Spans) (compares : List (List ℕ × Compared)) (findings : List (List ℕ × Seen))
-    → after_all (changed.change_parts title path margin spans compares findings) (Some places.Text) ≡ Some places.Text
+pub change_parts_to : (title path : List ℕ) (margin : Margin) (spans : Spans) (compares : List (List ℕ × Compared)) (ranks : List Rank) (findings : List (List ℕ × Seen))
+    → after_all (changed.change_parts title path margin spans compares ranks findings) (Some places.Text) ≡ Some places.Text
 unfolding after_all
-change_parts_to title path margin spans compares findings = page.is where
-  page : Between (changed.change_parts title path margin spans compares findings)
+change_parts_to title path margin spans compares ranks findings = page.is where
+  page : Between (changed.change_parts title path margin spans compares ranks findings)
   page =
       then_to (verdict_to margin spans compares findings) (then_to (bits_to (changed.change_header title path spans) refl) (cut_to 1 refl
-      (then_to (findings_to findings) (then_to (sites_to margin spans compares) (record { is = refl })))))
+      (then_to (findings_to findings) (then_to (sites_to margin spans compares ranks) (record { is = refl })))))

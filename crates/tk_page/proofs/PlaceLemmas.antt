@@ -36,6 +36,8 @@ use Rattle.tk_page.specs.declared.sample.Step.{Step}
 use Rattle.tk_page.specs.declared.strips.Area.{Area}
 use Rattle.tk_page.specs.declared.strips.Boxes.{Boxes}
 use Rattle.tk_page.specs.declared.strips.Boxes.TheVariants as which
+use Rattle.tk_page.specs.declared.strips.Doing.{Doing}
+use Rattle.tk_page.specs.declared.strips.Doing.TheVariants as doing
 use Rattle.tk_page.specs.declared.strips.Height.{Height}
 use Rattle.tk_odd.specs.declared.waiting.Waiting.{Waiting}
 use Rattle.tk_page.specs.Badges as badges
@@ -56,7 +58,7 @@ use Rattle.tk_page.specs.Rows as rows
 use Rattle.tk_page.specs.Sites as sites
 use Rattle.tk_page.specs.declared.sites.Known.{Known}
 use Rattle.tk_series.specs.Limited.{LimitedView}
-use Rattle.tk_report.specs.Timed.{percentile_of}
+use Rattle.tk_report.specs.Timed.{percentile_high}
 use Rattle.tk_sites.specs.declared.sums.Sums.{Sums}
 use Rattle.tk_sites.specs.declared.times.Histogram.{Histogram}
 use Rattle.tk_sites.specs.declared.times.SiteTimes.{SiteTimes}
@@ -159,7 +161,7 @@ card_to scale long tasks x =
 all_odd_to : (scale : Scale) (signs : Signs) (tasks : List Task) → Between (cards.all_odd scale signs tasks)
 unfolding after_all
 all_odd_to scale signs tasks =
-    cut_to 5 refl (then_to (each_to (cards.card scale signs.limits.long tasks) (card_to scale signs.limits.long tasks) (carded signs))
+    cut_to 6 refl (then_to (each_to (cards.card scale signs.limits.long tasks) (card_to scale signs.limits.long tasks) (carded signs))
     (cut_to 1 refl (then_to (more_to (length signs.findings.items) 20 (codes " more")) (record { is = refl }))))
 
 mean_wait_to : (all : Sample) → Between (cards.mean_wait all)
@@ -240,10 +242,27 @@ readings_to : (scale : Scale) (steps : List Step) → Leads (Some places.Tag) (s
 unfolding after_all
 readings_to scale steps = cut_to 1 refl (then_to (each_to (strips.reading scale) (reading_to scale) steps) (record { is = refl }))
 
+peak_words_to : (scale : Scale) (kind : Doing) (step : Step) → Within (strips.peak_words scale kind step)
+unfolding after_all
+peak_words_to scale doing.Busy step = record { is = refl }
+peak_words_to scale doing.Waiting step = record { is = refl }
+
+peak_to : (scale : Scale) (kind : Doing) (steps : List Step) → Within (strips.peak_said scale kind steps)
+peak_to scale kind steps = by (strips.peak kind steps)
+  where
+    by : (o : Option Step) → Within (option_map_or (strips.peak_words scale kind) o [])
+    by None = none_to (Some places.Value)
+    by (Some step) = peak_words_to scale kind step
+
+words_to : (scale : Scale) (t : Task) (last : Sample) (steps : List Step) → Leads (Some places.Tag) (strips.words scale t last steps) (Some places.Text)
+unfolding after_all
+words_to scale t last steps =
+    then_to (bits_to (strips.shares_said scale t last) refl) (then_to (peak_to scale doing.Busy steps) (then_to (peak_to scale doing.Waiting steps) (record { is = refl })))
+
 strip_to : (scale : Scale) (t : Task) (last : Sample) (steps : List Step) (lost : Bool) → Between (strips.strip_of scale t last steps lost)
 unfolding after_all
 strip_to scale t last steps lost =
-    then_to (bits_to (strips.drawing (codes "strip") (wide_of scale) 22) refl) (then_to (readings_to scale steps) (then_to (bits_to (strips.words scale t last) refl)
+    then_to (bits_to (strips.drawing (codes "strip") (wide_of scale) 22) refl) (then_to (readings_to scale steps) (then_to (words_to scale t last steps)
     (then_to (bits_to (strips.alive scale t.row) refl) (then_to (lost_if_to scale t.row lost) (then_to (paths_to scale (strips.most_wakes steps) steps) (record { is = refl }))))))
 
 -- ---- who waited for whom
@@ -381,7 +400,7 @@ sum_row_to : (scale : Scale) (height : Height) (blamed : List Blamed) (splits : 
 unfolding after_all
 sum_row_to scale height blamed splits =
     then_to (height_cell_to height) (then_to (whom_legend_to blamed) (then_to (picture_to scale height blamed splits)
-    (then_to (bits_to (strips.axis (watched scale)) refl) (record { is = refl }))))
+    (then_to (bits_to (strips.axis (watched scale)) refl) (cut_to 4 refl (then_to (bits_to (pictures.marks height) refl) (record { is = refl }))))))
 
 table_head_to : (scale : Scale) (height : Height) (blamed : List Blamed) (splits : List Split) → Between (rows.table_head scale height blamed splits)
 unfolding after_all
@@ -446,13 +465,20 @@ unfolding after_all
 held_cell_to None = record { is = refl }
 held_cell_to (Some time) = record { is = refl }
 
-percentile_cell_to : (percent : ℕ) (h : Histogram) → Between (polls.percentile_cell percent h)
+dash_cell_to : Between polls.dash_cell
 unfolding after_all
-percentile_cell_to percent h = by (percentile_of percent h.counts)
+dash_cell_to = record { is = refl }
+
+time_cell_to : (time : ℕ) → Between (polls.time_cell time)
+unfolding after_all
+time_cell_to time = record { is = refl }
+
+percentile_cell_to : (percent : ℕ) (h : Histogram) → Between (polls.percentile_cell percent h)
+percentile_cell_to percent h = by (percentile_high percent h.longest h.counts)
   where
-    by : (o : Option ℕ) → Between (option_map_or (λ bucket. polls.time_cell (polls.high_of h.longest bucket)) o polls.dash_cell)
-    by None = record { is = refl }
-    by (Some bucket) = record { is = refl }
+    by : (o : Option ℕ) → Between (option_map_or polls.time_cell o polls.dash_cell)
+    by None = dash_cell_to
+    by (Some time) = time_cell_to time
 
 bars_from_to : (most bucket : ℕ) (counts : List ℕ) → Within (polls.bars_from most bucket counts)
 bars_from_to most bucket [] = none_to (Some places.Value)

@@ -28,10 +28,11 @@ icon_of NeverReturns = 226 ∷ 136 ∷ 158 ∷ []
 icon_of IsLost = 226 ∷ 136 ∷ 133 ∷ []
 icon_of Loops = 226 ∷ 134 ∷ 187 ∷ []
 
--- the badge of a kind, where it holds
+-- the badge of a kind, where it holds. Its mark is for eyes alone
 abbrev pub badge : Bool → OddKind → List Bit
 badge odd kind =
-    if odd then opens tags.Span ∷ value attrs.Class ∷ text (codes "badge ") ∷ text (class_of (sign_of kind)) ∷ quote ∷ ends ∷ text (icon_of (sign_of kind)) ∷ text (codes " ") ∷ text (badge_of kind)
+    if odd then opens tags.Span ∷ value attrs.Class ∷ text (codes "badge ") ∷ text (class_of (sign_of kind)) ∷ quote ∷ ends
+    ∷ opens tags.Span ∷ having attrs.AriaHidden (codes "true") ∷ ends ∷ text (icon_of (sign_of kind)) ∷ close tags.Span ∷ text (codes " ") ∷ text (badge_of kind)
     ∷ close tags.Span ∷ []
     else []
 

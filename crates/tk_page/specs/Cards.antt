@@ -147,10 +147,15 @@ card scale long tasks x = card_of scale long tasks x.place.items x.finding (vict
 
 -- ---- all cards
 
+-- what so many findings are called
+abbrev pub findings_word : ℕ → List ℕ
+findings_word n = if n == 1 then codes " finding" else codes " findings"
+
 -- there are so many findings: the first 20 have cards
 abbrev pub all_odd : Scale → Signs → List Task → List Bit
 all_odd scale signs tasks =
-    class tags.Span (codes "count") ∷ count (length signs.findings.items) ∷ close tags.Span ∷ close tags.H2 ∷ class tags.Ul (codes "odd") ∷ []
+    class tags.Span (codes "count") ∷ count (length signs.findings.items) ∷ text (findings_word (length signs.findings.items)) ∷ close tags.Span
+    ∷ close tags.H2 ∷ class tags.Ul (codes "odd") ∷ []
     ++ (flat_map (card scale signs.limits.long tasks) (carded signs) ++ (close tags.Ul ∷ [] ++ (more (length signs.findings.items) 20 (codes " more") ++ close tags.Section ∷ [])))
 
 -- ---- nothing is odd

@@ -1,5 +1,6 @@
 -- The page of what changed between two streams.
-use Rattle.std.specs.Prelude.{◌≡◌, ℕ, ◌+◌, ◌*◌, ◌==◌, ◌||◌, nat_le, if◌then◌else◌, Option, Some, Result, Ok, Err, List, [], ◌∷◌, ◌++◌, codes, flat_map, fold}
+use Rattle.std.specs.Prelude.{◌≡◌, ℕ, ◌+◌, ◌*◌, ◌==◌, ◌||◌, nat_le, if◌then◌else◌, Option, Some, Result, Ok, Err, List, [], ◌∷◌, ◌++◌, codes, flat_map, fold, slice_get}
+use Rattle.std.specs.Option.{option_map_or}
 use Rattle.std.specs.Io.KnownBytes.{Appends}
 use Rattle.tk_core.specs.Lists.{capped}
 use Rattle.tk_fault.specs.declared.fault.AppFault.{AppFault}
@@ -28,7 +29,9 @@ use Rattle.tk_paper.specs.declared.marks.Attr.TheVariants as attrs
 use Rattle.tk_paper.specs.declared.marks.Place.TheVariants as places
 use Rattle.tk_paper.specs.declared.marks.Tag.TheVariants as tags
 use Rattle.tk_page.specs.declared.frame.TheConstants.{HEAD, TAIL}
+use Rattle.tk_page.specs.declared.ranks.Rank.{Rank}
 use Rattle.tk_page.specs.Badges.{section}
+use Rattle.tk_page.specs.ChangeRanks.{AreChangeRanks}
 use Rattle.tk_page.specs.Figures.{mean_of}
 use Rattle.tk_page.specs.Heads.{fact}
 use Rattle.tk_page.specs.Rows.{column, numbers_column}
@@ -166,16 +169,18 @@ change_row spans word x =
     class tags.Tr word ∷ opens tags.Th ∷ having attrs.Scope (codes "row") ∷ ends ∷ [] ++ (site_text x.0 ++ (close tags.Th ∷ start tags.Td
     ∷ text word ∷ close tags.Td ∷ [] ++ (changes_of spans x.1 ++ close tags.Tr ∷ [])))
 
--- the same, if its change has this rank
-abbrev pub row_if : Margin → Spans → ℕ → List ℕ × Compared → List Bit
-row_if margin spans rank x =
-    if rank_of (change_of margin spans x.1) == rank then change_row spans (word_of (change_of margin spans x.1)) x else []
+-- the same, if it changed
+abbrev pub row_if : Margin → Spans → List ℕ × Compared → List Bit
+row_if margin spans x =
+    if rank_of (change_of margin spans x.1) == 5 then [] else change_row spans (word_of (change_of margin spans x.1)) x
 
--- the rows of the places that changed: those that are worse, new, better and gone
-abbrev pub change_rows : Margin → Spans → List (List ℕ × Compared) → List Bit
-change_rows margin spans places =
-    flat_map (row_if margin spans 1) places ++ (flat_map (row_if margin spans 2) places
-    ++ (flat_map (row_if margin spans 3) places ++ flat_map (row_if margin spans 4) places))
+-- the row of the place of a rank
+abbrev pub row_of_rank : Margin → Spans → List (List ℕ × Compared) → Rank → List Bit
+row_of_rank margin spans places rank = option_map_or (row_if margin spans) (slice_get places rank.place) []
+
+-- the rows of the places that changed, in the order of these ranks
+abbrev pub change_rows : Margin → Spans → List (List ℕ × Compared) → List Rank → List Bit
+change_rows margin spans places ranks = flat_map (row_of_rank margin spans places) ranks
 
 abbrev pub change_columns : List Bit
 change_columns =
@@ -188,27 +193,29 @@ change_columns =
 abbrev pub change_caption : List Bit
 change_caption =
     opens tags.Table ∷ having attrs.Id (codes "changes") ∷ ends ∷ start tags.Caption
-    ∷ text (codes "Each row is a place that changed: where tasks are made, as what, and by which name but for numbers. A number stands before and after, with what the one is to the other.")
+    ∷ text (codes "Each row is a place that changed: where tasks are made, as what, and by which name but for numbers. Those that changed most come first. A number stands before and after, with what the one is to the other.")
     ∷ close tags.Caption ∷ start tags.Thead ∷ start tags.Tr ∷ []
 
-abbrev pub changes_section : Margin → Spans → List (List ℕ × Compared) → List Bit
-changes_section margin spans places =
+abbrev pub changes_section : Margin → Spans → List (List ℕ × Compared) → List Rank → List Bit
+changes_section margin spans places ranks =
     section (codes "places") (codes "Places") ++ (close tags.H2 ∷ class tags.Div (codes "scroll wide") ∷ [] ++ (change_caption ++ (change_columns
-    ++ (change_rows margin spans places ++ close tags.Tbody ∷ close tags.Table ∷ close tags.Div ∷ close tags.Section ∷ []))))
+    ++ (change_rows margin spans places ranks ++ close tags.Tbody ∷ close tags.Table ∷ close tags.Div ∷ close tags.Section ∷ []))))
 
 -- ---- the page
 
 -- all parts of the page of two streams
-abbrev pub change_parts : List ℕ → List ℕ → Margin → Spans → List (List ℕ × Compared) → List (List ℕ × Seen) → List Bit
-change_parts title before margin spans places findings =
+abbrev pub change_parts : List ℕ → List ℕ → Margin → Spans → List (List ℕ × Compared) → List Rank → List (List ℕ × Seen) → List Bit
+change_parts title before margin spans places ranks findings =
     verdict margin spans places findings ++ (change_header title before spans ++ (start tags.Main ∷ [] ++ (findings_section findings
-    ++ (changes_section margin spans places ++ close tags.Main ∷ []))))
+    ++ (changes_section margin spans places ranks ++ close tags.Main ∷ []))))
 
--- a page of places and findings of two streams: between the page's own head and end stand its parts, and every byte is the page's own markup or an escaped
--- byte of a text, each where it may stand
+-- a page of places and findings of two streams: the places at which most changed stand first; between the page's own head and end stand its parts, and
+-- every byte is the page's own markup or an escaped byte of a text, each where it may stand
 pub record IsDrawnOf (title path : List ℕ) (margin : Margin) (spans : Spans) (compares : List (List ℕ × Compared)) (findings : List (List ℕ × Seen)) (page : List ℕ) : Type 0 where
+  pub ranks : List Rank
+  pub ranked : AreChangeRanks spans compares ranks
   pub inner : List ℕ
-  pub wrote : Writes no_paper (record { text = inner; place = Some places.Text }) (change_parts title path margin spans compares findings)
+  pub wrote : Writes no_paper (record { text = inner; place = Some places.Text }) (change_parts title path margin spans compares ranks findings)
   pub woven : ∥ Woven inner places.Text ∥₁
   pub framed : page ≡ (HEAD.now ++ inner) ++ TAIL.now
 

@@ -48,5 +48,7 @@ pub mod Drawn
 pub mod Html
 -- What a page is
 pub mod Pages
+-- In which order the places of two streams stand
+pub mod ChangeRanks
 -- The page of two streams
 pub mod Changed

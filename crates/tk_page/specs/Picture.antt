@@ -130,6 +130,15 @@ picture scale height blamed splits =
     ++ (part_path scale height.top whom.First splits ++ (part_path scale height.top whom.Second splits ++ (part_path scale height.top whom.Rest splits
     ++ close tags.Svg ∷ [])))))
 
+-- ---- its scale
+
+-- up to how many tasks the picture goes, the half of them, and none, at its right
+abbrev pub marks : Height → List Bit
+marks height =
+    opens tags.Div ∷ having attrs.Class (codes "marks") ∷ having attrs.AriaHidden (codes "true") ∷ ends
+    ∷ start tags.Span ∷ mean (max height.top 1000) ∷ close tags.Span ∷ start tags.Span ∷ mean (max height.top 1000 / 2) ∷ close tags.Span
+    ∷ start tags.Span ∷ text (codes "0") ∷ close tags.Span ∷ close tags.Div ∷ []
+
 -- ---- what its colours say
 
 -- the colour of a place, the place, and how long others waited for it

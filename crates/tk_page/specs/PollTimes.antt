@@ -1,11 +1,10 @@
 -- How long the polls of a place's tasks ran and how long they waited, in cells.
-use Rattle.std.specs.Prelude.{ℕ, ◌+◌, ◌*◌, ◌/◌, ◌==◌, min, max, if◌then◌else◌, List, [], ◌∷◌, ◌++◌, codes, fold, Option, Some, None, option_and_then}
+use Rattle.std.specs.Prelude.{ℕ, ◌+◌, ◌*◌, ◌/◌, ◌==◌, max, if◌then◌else◌, List, [], ◌∷◌, ◌++◌, codes, fold, Option, Some, None, option_and_then}
 use Rattle.std.specs.Option.{option_map_or}
-use Rattle.tk_core.specs.Percentiles.{end_of}
 use Rattle.tk_paper.specs.Parts.{Bit, text, span, opens, ends, close, having, having_number, value, quote}
 use Rattle.tk_paper.specs.declared.marks.Attr.TheVariants as attrs
 use Rattle.tk_paper.specs.declared.marks.Tag.TheVariants as tags
-use Rattle.tk_report.specs.Timed.{percentile_of}
+use Rattle.tk_report.specs.Timed.{percentile_high}
 use Rattle.tk_series.specs.Limited.{LimitedView}
 use Rattle.tk_sites.specs.Below.{shown_at}
 use Rattle.tk_sites.specs.declared.times.Histogram.{Histogram}
@@ -14,13 +13,17 @@ use Rattle.tk_page.specs.Figures.{share_of}
 use Rattle.tk_page.specs.Rows.{cell}
 use Rattle.tk_page.specs.Strips.{box, drawing}
 
+-- a histogram, if any task has one
+abbrev pub if_any : Histogram → Option Histogram
+if_any h = if h.tasks == 0 then None else Some h
+
 -- the histogram of the polls of the place at an index, or past all of them of all others: none where no task has one
 abbrev pub polls_at : Option (LimitedView SiteTimes) → ℕ → Option Histogram
-polls_at times index = option_and_then (λ (own : SiteTimes). if own.polls.tasks == 0 then None else Some own.polls) (shown_at times index)
+polls_at times index = option_and_then (λ (own : SiteTimes). if_any own.polls) (shown_at times index)
 
 -- the same of their waits
 abbrev pub waits_at : Option (LimitedView SiteTimes) → ℕ → Option Histogram
-waits_at times index = option_and_then (λ (own : SiteTimes). if own.waits.tasks == 0 then None else Some own.waits) (shown_at times index)
+waits_at times index = option_and_then (λ (own : SiteTimes). if_any own.waits) (shown_at times index)
 
 -- a cell without a number
 abbrev pub dash_cell : List Bit
@@ -30,13 +33,9 @@ dash_cell = cell 0 (text (226 ∷ 128 ∷ 147 ∷ []) ∷ [])
 abbrev pub time_cell : ℕ → List Bit
 time_cell time = cell time (span time ∷ [])
 
--- what the times of a bucket don't pass: its end, or the longest of all where that is shorter
-abbrev pub high_of : ℕ → ℕ → ℕ
-high_of longest bucket = option_map_or (λ bound. min bound longest) (end_of bucket) longest
-
--- what so many of a hundred times don't pass, by the bucket in which that percentile lies; a dash where none has ended
+-- what so many of a hundred times don't pass; a dash where none has ended
 abbrev pub percentile_cell : ℕ → Histogram → List Bit
-percentile_cell percent h = option_map_or (λ bucket. time_cell (high_of h.longest bucket)) (percentile_of percent h.counts) dash_cell
+percentile_cell percent h = option_map_or time_cell (percentile_high percent h.longest h.counts) dash_cell
 
 -- ---- the histogram, drawn
 

@@ -27,7 +27,7 @@ use Rattle.tk_page.specs.Odd.{is_odd_at_all}
 use Rattle.tk_page.specs.Places.{id, location, more}
 use Rattle.tk_page.specs.Ranks.{AreInOrder, ranks_of}
 use Rattle.tk_core.specs.Lasting.{busy_until, sched_until}
-use Rattle.tk_page.specs.Picture.{picture, splits_of, whom_legend}
+use Rattle.tk_page.specs.Picture.{marks, picture, splits_of, whom_legend}
 use Rattle.tk_page.specs.Strips.{axis, drawing, most_waited, steps_of, strip}
 
 -- ---- what stands above the rows
@@ -96,7 +96,7 @@ height_cell height =
 abbrev pub sum_row : Scale → Height → List Blamed → List Split → List Bit
 sum_row scale height blamed splits =
     height_cell height ++ (whom_legend blamed ++ (picture scale height blamed splits ++ (axis (watched scale)
-    ++ close tags.Td ∷ opens tags.Td ∷ having_number attrs.Colspan 7 ∷ ends ∷ close tags.Td ∷ close tags.Tr ∷ [])))
+    ++ (close tags.Td ∷ opens tags.Td ∷ having_number attrs.Colspan 7 ∷ ends ∷ [] ++ (marks height ++ close tags.Td ∷ close tags.Tr ∷ [])))))
 
 abbrev pub caption : ℕ → List Bit
 caption time =
@@ -141,9 +141,10 @@ bar colour part =
     drawing (codes "bar") 100 10 ++ having attrs.AriaHidden (codes "true") ∷ ends ∷ opens tags.Rect ∷ having attrs.Class colour
     ∷ having_number attrs.Width (bar_length part) ∷ having_number attrs.Height 10 ∷ ends ∷ close tags.Rect ∷ close tags.Svg ∷ []
 
--- a cell with a time, as its share of a whole
+-- a cell with a time, as its share of a whole, and as it is
 abbrev pub share_cell : List ℕ → ℕ → ℕ → List Bit
-share_cell colour part whole = cell part (bar colour (share_of part whole) ++ text (codes " ") ∷ share (share_of part whole) ∷ [])
+share_cell colour part whole =
+    cell part (bar colour (share_of part whole) ++ text (codes " ") ∷ share (share_of part whole) ∷ text (codes " ") ∷ start tags.Small ∷ span part ∷ close tags.Small ∷ [])
 
 -- a cell with how long a poll takes in the mean; a dash where there was none
 abbrev pub mean_cell : ℕ → ℕ → List Bit

@@ -1,5 +1,6 @@
 -- Strips: a course of time, drawn.
-use Rattle.std.specs.Prelude.{ℕ, ◌-◌, ◌*◌, ◌/◌, ◌==◌, nat_lt, nat_le, min, max, ◌||◌, Bool, if◌then◌else◌, List, [], ◌∷◌, ◌++◌, codes, fold, flat_map, unwrap_or}
+use Rattle.std.specs.Prelude.{ℕ, ◌-◌, ◌*◌, ◌/◌, ◌==◌, nat_lt, nat_le, min, max, ◌||◌, Bool, if◌then◌else◌, List, [], ◌∷◌, ◌++◌, codes, find, fold, flat_map, Option, Some, None, unwrap_or}
+use Rattle.std.specs.Option.{option_map_or}
 use Rattle.tk_core.specs.Lists.{capped}
 use Rattle.tk_core.specs.declared.task.row.TaskRow.{TaskRow}
 use Rattle.tk_stream.specs.declared.tables.task.Task.{Task}
@@ -12,6 +13,8 @@ use Rattle.tk_page.specs.declared.sample.Step.{Step}
 use Rattle.tk_page.specs.declared.strips.Area.{Area}
 use Rattle.tk_page.specs.declared.strips.Boxes.{Boxes}
 use Rattle.tk_page.specs.declared.strips.Boxes.TheVariants as which
+use Rattle.tk_page.specs.declared.strips.Doing.{Doing}
+use Rattle.tk_page.specs.declared.strips.Doing.TheVariants as doing
 use Rattle.tk_page.specs.Figures.{mean_of, share_of, watched, wide_of, x_of}
 use Rattle.tk_page.specs.Odd.{is_lost}
 use Rattle.tk_page.specs.Samples.{nothing, sample_of, step_of, time_of}
@@ -112,11 +115,47 @@ reading scale step =
 abbrev pub readings : Scale → List Step → List Bit
 readings scale steps = value attrs.DataSteps ∷ [] ++ (flat_map (reading scale) steps ++ quote ∷ [])
 
--- what a strip says in words: the busy and the waiting share of the time that is shown
-abbrev pub words : Scale → Task → Sample → List Bit
-words scale t last =
+-- the share of a step that a task was busy or waited, in thousandths
+abbrev pub part_of : Doing → Step → ℕ
+part_of doing.Busy step = share_of step.busy (time_of step)
+part_of doing.Waiting step = share_of step.sched (time_of step)
+
+-- the greatest such share
+abbrev pub most_part : Doing → List Step → ℕ
+most_part kind steps = fold (λ most step. max (part_of kind step) most) 0 steps
+
+-- the first step that has such a share; none where it is 0
+abbrev pub step_with : Doing → ℕ → List Step → Option Step
+step_with kind n steps = if n == 0 then None else find (λ step. part_of kind step == n) steps
+
+-- the first step that has the greatest: none where a task did so in no step
+abbrev pub peak : Doing → List Step → Option Step
+peak kind steps = step_with kind (most_part kind steps) steps
+
+-- what a task did most
+abbrev pub doing_words : Doing → List ℕ
+doing_words doing.Busy = codes ". Busiest between "
+doing_words doing.Waiting = codes ". Waited most between "
+
+-- from when to when that was, and the share of it
+abbrev pub peak_words : Scale → Doing → Step → List Bit
+peak_words scale kind step =
+    text (doing_words kind) ∷ span (step.from - scale.start) ∷ text (codes " and ") ∷ span (step.to - scale.start) ∷ text (codes ": ") ∷ share (part_of kind step) ∷ []
+
+-- the same where there is such a step
+abbrev pub peak_said : Scale → Doing → List Step → List Bit
+peak_said scale kind steps = option_map_or (peak_words scale kind) (peak kind steps) []
+
+-- the busy and the waiting share of the time that is shown
+abbrev pub shares_said : Scale → Task → Sample → List Bit
+shares_said scale t last =
     having attrs.Role (codes "img") ∷ value attrs.AriaLabel ∷ text t.info.name ∷ text (codes ": busy ") ∷ share (share_of last.busy (watched scale))
-    ∷ text (codes ", waiting ") ∷ share (share_of last.sched (watched scale)) ∷ text (codes " of ") ∷ span (watched scale) ∷ quote ∷ ends ∷ []
+    ∷ text (codes ", waiting ") ∷ share (share_of last.sched (watched scale)) ∷ text (codes " of ") ∷ span (watched scale) ∷ []
+
+-- what a strip says in words: for which share of the time a task was busy and waited, and when most
+abbrev pub words : Scale → Task → Sample → List Step → List Bit
+words scale t last steps =
+    shares_said scale t last ++ (peak_said scale doing.Busy steps ++ (peak_said scale doing.Waiting steps ++ quote ∷ ends ∷ []))
 
 -- for how long a task was there
 abbrev pub alive : Scale → TaskRow → List Bit
@@ -133,7 +172,7 @@ lost_if scale x lost_waker = if lost_waker then lost scale x else []
 -- the strip of a task with these steps
 abbrev pub strip_of : Scale → Task → Sample → List Step → Bool → List Bit
 strip_of scale t last steps lost_waker =
-    drawing (codes "strip") (wide_of scale) 22 ++ (readings scale steps ++ (words scale t last ++ (alive scale t.row ++ (lost_if scale t.row lost_waker
+    drawing (codes "strip") (wide_of scale) 22 ++ (readings scale steps ++ (words scale t last steps ++ (alive scale t.row ++ (lost_if scale t.row lost_waker
     ++ (paths scale steps ++ close tags.Svg ∷ [])))))
 
 -- the strip of a task of whose course these samples are kept

@@ -403,6 +403,12 @@ fn put_cards(
     Ok(())
 }
 
+fn findings_word(n: u64) -> &'static str
+    ensures { result.now ≡ spec.findings_word n }
+{
+    if n == 1 { " finding" } else { " findings" }
+}
+
 fn put_all_odd(
     paper: &mut Paper,
     scale: Scale,
@@ -412,9 +418,11 @@ fn put_all_odd(
     ensures { OnOk result (Writes paper.old paper.new (spec.all_odd scale signs.now tables.now.tasks)) }
 {
     let all = signs.findings.as_slice().len();
+    let many = count(all);
     paper.put(&[
         Class(Tag::Span, "count"),
-        Count(count(all)),
+        Count(many),
+        Text(findings_word(many)),
         Close(Tag::Span),
         Close(Tag::H2),
         Class(Tag::Ul, "odd"),

@@ -9,9 +9,11 @@ ghost use Rattle.tk_paper.specs.Pieces.{Writes};
 ghost use Rattle.tk_page.specs.Changed as spec;
 
 use crate::badges::start_section;
+use crate::change_ranks::change_ranks_of;
 use crate::drawing::put_fact;
 use crate::figures::mean;
 use crate::frame::{HEAD, TAIL};
+use crate::ranks::Rank;
 use crate::sites::put_site_text;
 use crate::tasks::put_column;
 use crate::view::joined;
@@ -408,28 +410,28 @@ fn put_row_of(
     put_change_row(paper, spans, change.word(), site, x)
 }
 
-fn is_ranked(change: Change, rank: u8) -> bool
-    ensures { result ≡ (lines.rank_of change == rank) }
+// Whether a place is the same, which has the last rank.
+fn is_same(change: Change) -> bool
+    ensures { result ≡ (lines.rank_of change == 5) }
 {
-    change.rank() == rank
+    change.rank() == 5
 }
 
-// The same, if its change has this rank.
+// The same, if it changed.
 fn put_row_if(
     paper: &mut Paper,
     margin: Margin,
     spans: Spans,
-    rank: u8,
     site: &[u8],
     x: &Compared,
 ) -> Result<(), AllocError>
-    ensures { OnOk result (Writes paper.old paper.new (spec.row_if margin spans rank (site.now, x.now))) }
+    ensures { OnOk result (Writes paper.old paper.new (spec.row_if margin spans (site.now, x.now))) }
 {
     let change = change_of(margin, spans, x);
-    if is_ranked(change, rank) {
-        put_row_of(paper, spans, change, site, x)
-    } else {
+    if is_same(change) {
         paper.put(&[])
+    } else {
+        put_row_of(paper, spans, change, site, x)
     }
 }
 
@@ -437,46 +439,30 @@ fn put_row_at(
     paper: &mut Paper,
     margin: Margin,
     spans: Spans,
-    rank: u8,
     places: &Series<Compared>,
     at: usize,
 ) -> Result<(), AllocError>
-    ensures { OnOk result (Writes paper.old paper.new (option_map_or (spec.row_if margin spans rank) (slice_get places.now at) [])) }
+    ensures { OnOk result (Writes paper.old paper.new (option_map_or (spec.row_if margin spans) (slice_get places.now at) [])) }
 {
     match places.at(at) {
-        Some((site, x)) => put_row_if(paper, margin, spans, rank, site, &x),
+        Some((site, x)) => put_row_if(paper, margin, spans, site, &x),
         None => paper.put(&[]),
     }
 }
 
-// Puts the rows of the places whose change has this rank.
-fn put_rows_at(
-    paper: &mut Paper,
-    margin: Margin,
-    spans: Spans,
-    rank: u8,
-    places: &Series<Compared>,
-) -> Result<(), AllocError>
-    ensures { OnOk result (Writes paper.old paper.new (flat_map (spec.row_if margin spans rank) places.now)) }
-{
-    for at in 0..places.len() {
-        put_row_at(paper, margin, spans, rank, places, at)?;
-    }
-    Ok(())
-}
-
+// Puts the rows of the places that changed, in the order of these ranks.
 fn put_change_rows(
     paper: &mut Paper,
     margin: Margin,
     spans: Spans,
     places: &Series<Compared>,
+    ranks: &[Rank],
 ) -> Result<(), AllocError>
-    ensures { OnOk result (Writes paper.old paper.new (spec.change_rows margin spans places.now)) }
+    ensures { OnOk result (Writes paper.old paper.new (spec.change_rows margin spans places.now ranks.now)) }
 {
-    put_rows_at(paper, margin, spans, 1, places)?;
-    put_rows_at(paper, margin, spans, 2, places)?;
-    put_rows_at(paper, margin, spans, 3, places)?;
-    put_rows_at(paper, margin, spans, 4, places)?;
+    for rank in ranks {
+        put_row_at(paper, margin, spans, places, rank.place)?;
+    }
     Ok(())
 }
 
@@ -504,7 +490,7 @@ fn put_change_caption(paper: &mut Paper) -> Result<(), AllocError>
         End,
         Start(Tag::Caption),
         Text(
-            "Each row is a place that changed: where tasks are made, as what, and by which name but for numbers. A number stands before and after, with what the one is to the other.",
+            "Each row is a place that changed: where tasks are made, as what, and by which name but for numbers. Those that changed most come first. A number stands before and after, with what the one is to the other.",
         ),
         Close(Tag::Caption),
         Start(Tag::Thead),
@@ -517,14 +503,15 @@ fn put_changes_section(
     margin: Margin,
     spans: Spans,
     places: &Series<Compared>,
+    ranks: &[Rank],
 ) -> Result<(), AllocError>
-    ensures { OnOk result (Writes paper.old paper.new (spec.changes_section margin spans places.now)) }
+    ensures { OnOk result (Writes paper.old paper.new (spec.changes_section margin spans places.now ranks.now)) }
 {
     start_section(paper, "places", "Places")?;
     paper.put(&[Close(Tag::H2), Class(Tag::Div, "scroll wide")])?;
     put_change_caption(paper)?;
     put_change_columns(paper)?;
-    put_change_rows(paper, margin, spans, places)?;
+    put_change_rows(paper, margin, spans, places, ranks)?;
     paper.put(&[
         Close(Tag::Tbody),
         Close(Tag::Table),
@@ -544,15 +531,16 @@ fn put_change_parts(
     margin: Margin,
     spans: Spans,
     places: &Series<Compared>,
+    ranks: &[Rank],
     findings: &Series<Seen>,
 ) -> Result<(), AllocError>
-    ensures { OnOk result (Writes paper.old paper.new (spec.change_parts title.now before.now margin spans places.now findings.now)) }
+    ensures { OnOk result (Writes paper.old paper.new (spec.change_parts title.now before.now margin spans places.now ranks.now findings.now)) }
 {
     put_verdict(paper, margin, spans, places, findings)?;
     put_change_header(paper, title, before, spans)?;
     paper.put(&[Start(Tag::Main)])?;
     put_findings_section(paper, findings)?;
-    put_changes_section(paper, margin, spans, places)?;
+    put_changes_section(paper, margin, spans, places, ranks)?;
     paper.put(&[Close(Tag::Main)])?;
     Ok(())
 }
@@ -569,8 +557,18 @@ fn change_text(
 ) -> Result<Vec<u8>, AllocError>
     ensures { IfOk result (λ page. spec.IsDrawnOf title.now path.now margin spans places.now findings.now page.items) }
 {
+    let ranks = change_ranks_of(alloc, spans, places)?;
     let mut paper = Paper::new(alloc);
-    put_change_parts(&mut paper, title, path, margin, spans, places, findings)?;
+    put_change_parts(
+        &mut paper,
+        title,
+        path,
+        margin,
+        spans,
+        places,
+        ranks.as_slice(),
+        findings,
+    )?;
     let inner = paper.into_bytes();
     let page = joined(alloc, HEAD, inner.as_slice(), TAIL)?;
     Ok(page)

@@ -2,7 +2,7 @@
 
 /// What stands before the page's text.
 pub const HEAD: &str = "<!DOCTYPE html>
-<html lang=\"en\"><head><meta charset=\"utf-8\"><meta http-equiv=\"Content-Security-Policy\" content=\"default-src 'none'; style-src 'sha256-gkKfALHMG4jjhIvDJbFO/gXOpq91QcxOcC+T4YnbAM0='; script-src 'sha256-5Fa93fw74jbjb7EaQQ/eGT+jRReaoyzxcaHAOxM2Pz8='\"><meta name=\"viewport\" content=\"width=device-width, initial-scale=1\"><meta name=\"color-scheme\" content=\"light dark\"><title>taskscope</title><style>:root{--bg:#fff;--ink:#1a2027;--dim:#5a6672;--rule:#d5dce3;--card:#f6f8fa;--idle:#e6ebf0;--busy:#1f6fb8;--wait:#a85a00;--wake:#7b8794;--own:#b5179e;--bad:#c62828;--link:#0b5cad;--first:#0d3b66;--second:#3d8fd9}
+<html lang=\"en\"><head><meta charset=\"utf-8\"><meta http-equiv=\"Content-Security-Policy\" content=\"default-src 'none'; style-src 'sha256-DwXXD4yRwll3rRvs8wOaoC6ViNe9+E6XEWGbm3c8gDY='; script-src 'sha256-euTDfX1UqSQFr1eJLdcZIO/1nLsHNjzxguHtjCaItWo='\"><meta name=\"viewport\" content=\"width=device-width, initial-scale=1\"><meta name=\"color-scheme\" content=\"light dark\"><title>taskscope</title><style>:root{--bg:#fff;--ink:#1a2027;--dim:#5a6672;--rule:#d5dce3;--card:#f6f8fa;--idle:#e6ebf0;--busy:#1f6fb8;--wait:#a85a00;--wake:#7b8794;--own:#b5179e;--bad:#c62828;--link:#0b5cad;--first:#0d3b66;--second:#3d8fd9}
 @media (prefers-color-scheme:dark){:root{--bg:#11161c;--ink:#e4e9ee;--dim:#9aa7b4;--rule:#2b353f;--card:#19212a;--idle:#25303b;--busy:#4fa3e8;--wait:#ffa53d;--wake:#8796a5;--own:#f06fd8;--bad:#ff6b61;--link:#7fc0ff;--first:#cfe6ff;--second:#2f7cc4}}
 *{box-sizing:border-box}
 body{margin:0;background:var(--bg);color:var(--ink);font:15px/1.45 system-ui,'Segoe UI','DejaVu Sans',sans-serif}
@@ -46,22 +46,23 @@ tr:target{background:var(--card);outline:2px solid var(--link);outline-offset:-2
 svg{display:block}
 svg.hist{display:inline-block;width:84px;height:16px;vertical-align:-3px;margin-right:4px;border-bottom:1px solid var(--rule)}
 svg.strip{width:100%;height:30px}
-svg.total{width:100%;height:64px;border-bottom:1px solid var(--rule)}
+svg.total{width:100%;height:64px;border-bottom:1px solid var(--rule);background:linear-gradient(var(--rule) 1px,transparent 1px) 0 0/100% 32px}
 .total path{stroke:var(--bg);stroke-width:.6;vector-effect:non-scaling-stroke}
 .whom .who{color:var(--ink);overflow-wrap:anywhere}
 tr.sum td{border:0;padding-bottom:0}tr.sum td:nth-child(2){padding-left:0;padding-right:0}
 .lead{text-align:right;font-size:13px}
-#table td:nth-child(4),#table td:nth-child(5){min-width:118px}
+#table td:nth-child(4),#table td:nth-child(5){min-width:118px}#table .num small{color:var(--dim);display:block}
 svg.bar{float:left;margin-top:6px;width:52px;height:9px;background:var(--idle);border-radius:2px;margin-right:4px}
 .first{fill:var(--first)}.second{fill:var(--second)}.busy{fill:var(--busy)}.wait{fill:var(--wait)}.alive{fill:var(--idle)}.wake{fill:var(--wake)}.own{fill:var(--own)}.lost{fill:var(--bad);fill-opacity:.55}
-.axis{display:flex;justify-content:space-between;font-size:11px;color:var(--dim)}
+.axis{display:flex;justify-content:space-between;font-size:11px;line-height:16px;color:var(--dim)}
+.marks{display:flex;flex-direction:column;justify-content:space-between;height:64px;margin-bottom:16px;font-size:11px;line-height:1;color:var(--dim)}tr.sum td:last-child{vertical-align:bottom}
 .badge{display:inline-block;font-size:11.5px;font-weight:600;border:1px solid currentColor;border-radius:9px;padding:0 7px;margin:2px 4px 0 0;color:var(--bad);white-space:nowrap}
 .badge.holds{color:var(--busy)}.badge.self{color:var(--own)}.badge.unpolled{color:var(--wait)}
 .name{display:-webkit-inline-box;-webkit-box-orient:vertical;-webkit-line-clamp:2;overflow:hidden;vertical-align:bottom}.st{white-space:nowrap}.st.closed{color:var(--dim)}.st.running{color:var(--busy);font-weight:600}.st.waiting{color:var(--wait);font-weight:600}
 .res{border:1px solid var(--rule);border-radius:4px;padding:10px 14px;margin-bottom:10px}
 dl{display:flex;flex-wrap:wrap;gap:2px 22px;margin:2px 0}dl div{display:flex;gap:6px}dt{color:var(--dim)}dd{margin:0;font-weight:600;font-variant-numeric:tabular-nums}
 summary{cursor:pointer}
-@media print{:root{--bg:#fff;--ink:#000;--dim:#444;--rule:#bbb;--card:#f4f4f4;--idle:#e6ebf0;--busy:#1f6fb8;--wait:#a85a00;--wake:#7b8794;--own:#b5179e;--bad:#c62828;--first:#0d3b66;--second:#3d8fd9}*{print-color-adjust:exact;-webkit-print-color-adjust:exact}.controls,#step{display:none}tr,li,.res{break-inside:avoid}thead th{position:static}.do,.legend,.lead,.controls,caption,h3,small,.badge{font-size:inherit}body{font-size:11px}header,main{padding:0;max-width:none}table{font-size:10.5px}.course{min-width:0}@page{size:landscape;margin:12mm}}
+@media print{:root{--bg:#fff;--ink:#000;--dim:#444;--rule:#bbb;--card:#f4f4f4;--idle:#e6ebf0;--busy:#1f6fb8;--wait:#a85a00;--wake:#7b8794;--own:#b5179e;--bad:#c62828;--first:#0d3b66;--second:#3d8fd9}*{print-color-adjust:exact;-webkit-print-color-adjust:exact}.controls,#step{display:none}tr,li,.res{break-inside:avoid}thead{display:table-header-group}thead th{position:static}.do,.legend,.lead,.controls,caption,h3,small,.badge{font-size:inherit}body{font-size:11px}header,main{padding:0;max-width:none}table{font-size:10.5px}.course{min-width:0}@page{size:landscape;margin:12mm}}
 .note{flex-basis:100%;margin:0;color:var(--dim)}
 .now{max-width:1392px;width:calc(100% - 48px);margin:14px auto 0;border:2px solid var(--bad);border-radius:6px;padding:8px 16px}
 .now .tag{background:var(--bad);color:var(--bg);border-radius:4px;padding:1px 8px;font-weight:700;font-size:12px;text-transform:uppercase}
@@ -189,10 +190,11 @@ sorted(sites, asked.get('places'));
 show();
 const watched = Number(table.dataset.v), unit = Math.floor(watched / 1000) + 1;
 const grouped = (n) => n < 10000 ? String(n) : String(n).replace(/(?!^)(?=([0-9]{3})+$)/g, String.fromCharCode(0x202f));
+const noBreak = String.fromCharCode(160);
 const tenths = (n, few) => n < few ? (n / 10).toFixed(1) : grouped(Math.floor(n / 10));
 const time = (ns) => {
   const [word, size] = [['s', 1e9], ['ms', 1e6], [String.fromCharCode(181) + 's', 1e3]].find((one) => ns >= one[1]) || ['ns', 1];
-  return (size > 1 ? tenths(Math.floor(ns * 10 / size), 1000) : grouped(ns)) + ' ' + word;
+  return (size > 1 ? tenths(Math.floor(ns * 10 / size), 1000) : grouped(ns)) + noBreak + word;
 };
 const moment = (x, wide) => {
   if (x === 0 || x >= wide) return x === 0 ? '0' : time(watched);
@@ -202,7 +204,7 @@ const moment = (x, wide) => {
   }
   return time(x * unit);
 };
-const share = (n) => tenths(n, 100) + ' %';
+const share = (n) => tenths(n, 100) + noBreak + '%';
 const mean = (n) => grouped(Math.floor(n / 1000)) + '.' + Math.floor(n % 1000 / 100);
 const whom = [...table.querySelectorAll('.who')].map((who) => who.textContent);
 const told = (strip, step) => {
@@ -248,18 +250,19 @@ const sums = (strip, from, to) => {
   });
   return sum;
 };
-const put = (cell, v, text, share) => {
+const put = (cell, v, text, part) => {
   cell.dataset.v = Math.round(v);
-  cell.lastChild.textContent = text;
-  const box = cell.querySelector('svg.bar rect');
-  if (box) box.setAttribute('width', Math.min(100, Math.round(share / 10)));
+  if (part === undefined) return cell.replaceChildren(text);
+  cell.querySelector('rect').setAttribute('width', Math.min(100, Math.round(part / 10)));
+  cell.querySelector('svg').nextSibling.textContent = ' ' + text + ' ';
+  cell.querySelector('small').textContent = time(Math.round(v));
 };
 const narrow = (row) => {
   const strip = row.querySelector('svg[data-steps]');
   if (!strip) return;
-  const [busy, wait, wakes, own] = sums(strip, ...span), time = (span[1] - span[0]) * unit;
-  put(row.cells[3], busy * time / 1000, ' ' + share(busy), busy);
-  put(row.cells[4], wait * time / 1000, ' ' + share(wait), wait);
+  const [busy, wait, wakes, own] = sums(strip, ...span), long = (span[1] - span[0]) * unit;
+  put(row.cells[3], busy * long / 1000, share(busy), busy);
+  put(row.cells[4], wait * long / 1000, share(wait), wait);
   put(row.cells[7], wakes, grouped(Math.round(wakes)));
   put(row.cells[8], own, grouped(Math.round(own)));
 };
@@ -292,6 +295,19 @@ const reaches = (strip, from, to) => {
   const every = steps(strip), [a, b] = from < to ? [from, to] : [to, from];
   if (every[a]) choose(every[a][0], b + 1 < every.length ? every[b + 1][0] : wide(strip));
 };
+for (const button of document.querySelectorAll('th[title] button')) {
+  const hint = button.parentNode.title;
+  if (!hint) continue;
+  button.addEventListener('focus', () => {
+    if (!button.matches(':focus-visible')) return;
+    const box = button.getBoundingClientRect();
+    tip.textContent = hint;
+    tip.hidden = false;
+    tip.style.left = scrollX + Math.max(8, Math.min(box.left, document.documentElement.clientWidth - tip.offsetWidth - 8)) + 'px';
+    tip.style.top = scrollY + box.bottom + 4 + 'px';
+  });
+  button.addEventListener('blur', hide);
+}
 let reached = 0, anchor = null;
 const reach = (strip) => {
   for (const other of table.querySelectorAll('svg[tabindex]')) other.setAttribute('tabindex', '-1');

@@ -10,6 +10,7 @@ mod banner;
 mod blame;
 mod blamed;
 mod cards;
+mod change_ranks;
 mod changed;
 mod drawing;
 mod figures;

@@ -315,6 +315,31 @@ pub(crate) fn put_picture(
     Ok(())
 }
 
+// ---- its scale
+
+/// Puts up to how many tasks the picture goes, the half of them, and none, at its right.
+pub(crate) fn put_marks(paper: &mut Paper, height: Height) -> Result<(), AllocError>
+    ensures { OnOk result (Writes paper.old paper.new (spec.marks height)) }
+{
+    let top = height.top.max(1000);
+    paper.put(&[
+        Open(Tag::Div),
+        With(Attr::Class, "marks"),
+        With(Attr::AriaHidden, "true"),
+        End,
+        Start(Tag::Span),
+        Mean(top),
+        Close(Tag::Span),
+        Start(Tag::Span),
+        Mean(top / 2),
+        Close(Tag::Span),
+        Start(Tag::Span),
+        Text("0"),
+        Close(Tag::Span),
+        Close(Tag::Div),
+    ])
+}
+
 // ---- what its colours say
 
 // Puts the colour of a place, the place, and how long others waited for it.

@@ -1,10 +1,7 @@
 //! How long the polls of a place's tasks ran and how long they waited, in cells.
-ghost use Rattle.std.specs.Prelude.{◌≡◌, ◌≤◌, OnOk, length, slice_get};
-ghost use Rattle.tk_core.specs.Percentiles as percentiles;
-ghost use Rattle.tk_core.specs.Times.{bounds};
+ghost use Rattle.std.specs.Prelude.{◌≡◌, ◌≤◌, OnOk, length};
 ghost use Rattle.tk_paper.specs.Pieces.{Writes};
 ghost use Rattle.tk_page.specs.PollTimes as spec;
-ghost use Rattle.tk_report.specs.Timed as timed;
 ghost use Rattle.tk_sites.specs.Below.{shown_at, times_at as times_in};
 
 use crate::figures::share;
@@ -12,26 +9,9 @@ use crate::strips::{Area, put_box};
 use std::alloc::AllocError;
 use tk_paper::Part::{Close, End, Number, Open, Quote, Span, Text, Value, With, WithNumber};
 use tk_paper::{Attr, Paper, Tag};
+use tk_report::percentile_high;
 use tk_series::Limited;
 use tk_sites::{Histogram, SiteTimes};
-use tk_stream::PollTimes;
-
-// The bounds of the buckets, in nanoseconds: the first bucket begins at 0, each other at the bound before it.
-const BOUNDS: [u64; 13] = [
-    1 << 14,
-    1 << 15,
-    1 << 16,
-    1 << 17,
-    1 << 18,
-    1 << 19,
-    1 << 20,
-    1 << 21,
-    1 << 22,
-    1 << 23,
-    1 << 24,
-    1 << 25,
-    1 << 26,
-];
 
 // How high a histogram is drawn, and how wide.
 const HIGH: u64 = 16;
@@ -58,18 +38,19 @@ fn shown(times: &Option<Limited<SiteTimes>>, index: usize) -> Option<SiteTimes>
     }
 }
 
+// A histogram, if any task has one.
+fn if_any(all: Histogram) -> Option<Histogram>
+    ensures { result ≡ spec.if_any all }
+{
+    if all.tasks == 0 { None } else { Some(all) }
+}
+
 /// The histogram of the polls of the place at an index, or past all of them of all others: none where no task has one.
 pub(crate) fn polls_at(times: &Option<Limited<SiteTimes>>, index: usize) -> Option<Histogram>
     ensures { result ≡ spec.polls_at times.now index }
 {
     match shown(times, index) {
-        Some(own) => {
-            if own.polls.tasks == 0 {
-                None
-            } else {
-                Some(own.polls)
-            }
-        }
+        Some(own) => if_any(own.polls),
         None => None,
     }
 }
@@ -79,13 +60,7 @@ pub(crate) fn waits_at(times: &Option<Limited<SiteTimes>>, index: usize) -> Opti
     ensures { result ≡ spec.waits_at times.now index }
 {
     match shown(times, index) {
-        Some(own) => {
-            if own.waits.tasks == 0 {
-                None
-            } else {
-                Some(own.waits)
-            }
-        }
+        Some(own) => if_any(own.waits),
         None => None,
     }
 }
@@ -120,49 +95,13 @@ pub(crate) fn put_time(paper: &mut Paper, time: u64) -> Result<(), AllocError>
     ])
 }
 
-fn bound_at(place: usize) -> Option<u64>
-    ensures { result ≡ slice_get bounds place }
-{
-    BOUNDS.get(place).copied()
-}
-
-fn end_of(bucket: usize) -> Option<u64>
-    ensures { result ≡ percentiles.end_of bucket }
-{
-    bound_at(bucket)
-}
-
-// What the times of a bucket don't pass.
-fn high_of(longest: u64, bucket: usize) -> u64
-    ensures { result ≡ spec.high_of longest bucket }
-{
-    match end_of(bucket) {
-        Some(bound) => bound.min(longest),
-        None => longest,
-    }
-}
-
-// The bucket of a percentile, if any poll has ended.
-fn percentile_of(polls: &Histogram, percent: u64) -> Option<usize>
-    requires some { 1 ≤ percent }
-    requires most { percent ≤ 100 }
-    ensures { result ≡ timed.percentile_of percent polls.now.counts }
-{
-    let times = PollTimes {
-        longest: polls.longest,
-        counts: polls.counts,
-        waits: None,
-    };
-    times.percentile(percent)
-}
-
 fn put_percentile(paper: &mut Paper, polls: &Histogram, percent: u64) -> Result<(), AllocError>
     requires some { 1 ≤ percent }
     requires most { percent ≤ 100 }
     ensures { OnOk result (Writes paper.old paper.new (spec.percentile_cell percent polls.now)) }
 {
-    match percentile_of(polls, percent) {
-        Some(bucket) => put_time(paper, high_of(polls.longest, bucket)),
+    match percentile_high(polls.longest, &polls.counts, percent) {
+        Some(time) => put_time(paper, time),
         None => put_dash(paper),
     }
 }

@@ -15,9 +15,9 @@ use tk_stream::{Tables, Task};
 /// Where a task or a place stands: the least comes first.
 #[derive(Clone, Copy, Debug, PartialEq, Eq, PartialOrd, Ord)]
 pub(crate) struct Rank {
-    calm: bool,
-    // How far what it ran and waited is below the greatest number.
-    below: u64,
+    pub calm: bool,
+    /// How far what it ran and waited is below the greatest number, or another number by which it is ranked.
+    pub below: u64,
     /// Where it stands among all.
     pub place: usize,
 }

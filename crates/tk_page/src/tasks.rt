@@ -11,7 +11,7 @@ use crate::figures::{Scale, each, front, share};
 use crate::history::History;
 use crate::idle::put_awaited;
 use crate::oddities::Signs;
-use crate::picture::{Split, put_picture, put_whom_legend, splits_of};
+use crate::picture::{Split, put_marks, put_picture, put_whom_legend, splits_of};
 use crate::ranks::{Rank, ranks_of};
 use crate::resources::put_more;
 use crate::sample::Sample;
@@ -197,9 +197,9 @@ fn put_sum_row(
         Open(Tag::Td),
         WithNumber(Attr::Colspan, 7),
         End,
-        Close(Tag::Td),
-        Close(Tag::Tr),
     ])?;
+    put_marks(paper, height)?;
+    paper.put(&[Close(Tag::Td), Close(Tag::Tr)])?;
     Ok(())
 }
 
@@ -240,7 +240,7 @@ fn bar_length(share: u64) -> u64
     if share > 0 { (share / 10).max(1) } else { 0 }
 }
 
-// Puts a cell with a time, as its share and a bar as long as that. Its column is sorted by the time.
+// Puts a cell with a time, as its share, with a bar as long as that, and as it is. Its column is sorted by the time.
 fn put_share_cell(
     paper: &mut Paper,
     class: &'static str,
@@ -276,6 +276,10 @@ fn put_share_cell(
         Close(Tag::Svg),
         Text(" "),
         Share(share),
+        Text(" "),
+        Start(Tag::Small),
+        Span(part),
+        Close(Tag::Small),
         Close(Tag::Td),
     ])
 }

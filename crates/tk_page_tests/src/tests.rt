@@ -19,7 +19,7 @@ const POLLED: &[u8] =
 
 // Its cells: 20 and 50 of the 100 that are shown, 20 a poll, 1 poll, 9 wakes, 4 of its own, and 2 wakers that are out.
 const CELLS: &str =
-    "<td data-v=\"20\" class=\"num\"><svg class=\"bar\" viewBox=\"0 0 100 10\" preserveAspectRatio=\"none\" aria-hidden=\"true\"><rect class=\"busy\" width=\"20\" height=\"10\"></rect></svg> 20 %</td><td data-v=\"50\" class=\"num\"><svg class=\"bar\" viewBox=\"0 0 100 10\" preserveAspectRatio=\"none\" aria-hidden=\"true\"><rect class=\"wait\" width=\"50\" height=\"10\"></rect></svg> 50 %</td><td data-v=\"20\" class=\"num\">20 ns</td><td data-v=\"1\" class=\"num\">1</td><td data-v=\"9\" class=\"num\">9</td><td data-v=\"4\" class=\"num\">4</td><td data-v=\"2\" class=\"num\">2</td></tr>";
+    "<td data-v=\"20\" class=\"num\"><svg class=\"bar\" viewBox=\"0 0 100 10\" preserveAspectRatio=\"none\" aria-hidden=\"true\"><rect class=\"busy\" width=\"20\" height=\"10\"></rect></svg> 20\u{a0}% <small>20\u{a0}ns</small></td><td data-v=\"50\" class=\"num\"><svg class=\"bar\" viewBox=\"0 0 100 10\" preserveAspectRatio=\"none\" aria-hidden=\"true\"><rect class=\"wait\" width=\"50\" height=\"10\"></rect></svg> 50\u{a0}% <small>50\u{a0}ns</small></td><td data-v=\"20\" class=\"num\">20\u{a0}ns</td><td data-v=\"1\" class=\"num\">1</td><td data-v=\"9\" class=\"num\">9</td><td data-v=\"4\" class=\"num\">4</td><td data-v=\"2\" class=\"num\">2</td></tr>";
 
 // From 1 s on a task runs, and another waits.
 const HELD_UP: &[u8] =
@@ -30,10 +30,10 @@ const LATER: &[u8] =
     b"{\"dropped\":[0,0,0],\"new_ops\":[],\"new_resources\":[],\"new_tasks\":[],\"now\":3000000000,\"op_stats\":[],\"poll_counts\":[],\"resource_stats\":[],\"seq\":2,\"snapshot\":false,\"task_stats\":[],\"v\":1}\n";
 
 const BANNER: &str =
-    "<p class=\"now\"><span class=\"tag\">now</span> <a href=\"#t1099511627777\">hog</a> has held its thread for 2.0 s; 1 task waits, the longest for 2.0 s. It was made at script:1:1, kind spawn. What to do: split its polls, or move the work to a blocking task.</p>";
+    "<p class=\"now\"><span class=\"tag\">now</span> <a href=\"#t1099511627777\">hog</a> has held its thread for 2.0\u{a0}s; 1 task waits, the longest for 2.0\u{a0}s. It was made at script:1:1, kind spawn. What to do: split its polls, or move the work to a blocking task.</p>";
 
 const CARD: &str =
-    "<span class=\"count\">3</span></h2><ul class=\"odd\"><li class=\"holds\"><h3><span class=\"icon\" aria-hidden=\"true\">▮</span> <a href=\"#t1099511627777\">hog</a> holds up the others <small>now</small></h3><p>Between 1.0 s and 3.0 s others waited for it, at least 2.0 s in all. A poll of it took at least 2.0 s. The largest part was waited by tasks of this place, at least 2.0 s: spawn at script:1:1 name victim. It was made at script:1:1, kind spawn.</p><p class=\"do\">What to do: split its polls, or move the work to a blocking task.</p></li>";
+    "<span class=\"count\">3 findings</span></h2><ul class=\"odd\"><li class=\"holds\"><h3><span class=\"icon\" aria-hidden=\"true\">▮</span> <a href=\"#t1099511627777\">hog</a> holds up the others <small>now</small></h3><p>Between 1.0\u{a0}s and 3.0\u{a0}s others waited for it, at least 2.0\u{a0}s in all. A poll of it took at least 2.0\u{a0}s. The largest part was waited by tasks of this place, at least 2.0\u{a0}s: spawn at script:1:1 name victim. It was made at script:1:1, kind spawn.</p><p class=\"do\">What to do: split its polls, or move the work to a blocking task.</p></li>";
 
 // The page of a stream, and how many warnings it has.
 fn page_of(alloc: Global, stream: &[u8]) -> Option<(Vec<u8>, u64)> {
@@ -79,6 +79,24 @@ fn a_row_has_the_numbers_of_its_task(rt: HostRuntime) {
     assert!(rt; shows(rt.alloc(), POLLED, CELLS, "<script>alert"));
 }
 
+// What its strip says in words: it was busy and waited in its one step, from the left on.
+const WORDS: &str =
+    "aria-label=\"main: busy 20\u{a0}%, waiting 50\u{a0}% of 100\u{a0}ns. Busiest between 0\u{a0}ns and 100\u{a0}ns: 20\u{a0}%. Waited most between 0\u{a0}ns and 100\u{a0}ns: 50\u{a0}%\">";
+
+#[test]
+fn a_strip_says_when_its_task_was_busiest(rt: HostRuntime) {
+    assert!(rt; shows(rt.alloc(), POLLED, WORDS, "<script>alert"));
+}
+
+// The picture goes up to one task, of which half a task is the middle.
+const MARKS: &str =
+    "<div class=\"marks\" aria-hidden=\"true\"><span>1.0</span><span>0.5</span><span>0</span></div>";
+
+#[test]
+fn the_picture_has_a_scale(rt: HostRuntime) {
+    assert!(rt; shows(rt.alloc(), POLLED, MARKS, "<script>alert"));
+}
+
 // The step of its strip: from the left on, 20 % busy, 50 % waiting, 9 wakes, 4 of its own.
 #[test]
 fn a_strip_has_the_numbers_of_its_steps(rt: HostRuntime) {
@@ -107,7 +125,7 @@ fn waits_show(alloc: Global, woken: bool, permits: u64, text: &str, not: &str) -
 fn an_idle_task_says_what_it_waits_for(rt: HostRuntime) {
     let odd = "</small><div class=\"badges\"";
     let awaited =
-        "<div class=\"in\">in Semaphore::acquire, wants -12\u{202f}345 · Semaphore 1.1, permits 0 MB · since 30 ns</div></th>";
+        "<div class=\"in\">in Semaphore::acquire, wants -12\u{202f}345 · Semaphore 1.1, permits 0 MB · since 30\u{a0}ns</div></th>";
     assert!(rt; waits_show(rt.alloc(), false, 0, awaited, odd));
     assert!(rt; waits_show(rt.alloc(), true, 0, "Semaphore::acquire", "class=\"in\""));
 }
@@ -115,7 +133,7 @@ fn an_idle_task_says_what_it_waits_for(rt: HostRuntime) {
 #[test]
 fn a_resource_says_who_waits_for_it(rt: HostRuntime) {
     let waiter =
-        "<div class=\"in\"><a href=\"#t1099511627778\">writer</a> waits in Semaphore::acquire, wants -12\u{202f}345 · since 30 ns</div><p>poll operations: 0 ready, 0 pending</p>";
+        "<div class=\"in\"><a href=\"#t1099511627778\">writer</a> waits in Semaphore::acquire, wants -12\u{202f}345 · since 30\u{a0}ns</div><p>poll operations: 0 ready, 0 pending</p>";
     assert!(rt; waits_show(rt.alloc(), false, 0, waiter, "class=\"more\""));
 }
 
@@ -146,7 +164,7 @@ fn digits_stand_in_groups_of_three(rt: HostRuntime) {
 #[test]
 fn a_stream_without_lines_has_a_page_without_items(rt: HostRuntime) {
     let none =
-        "<b>0</b> tasks · <b>0</b> resources · <b>0</b> operations · <b>0</b> lines over <b data-v=\"0\">0 ns</b></p>";
+        "<b>0</b> tasks · <b>0</b> resources · <b>0</b> operations · <b>0</b> lines over <b data-v=\"0\">0\u{a0}ns</b></p>";
     let no_line = "<p class=\"now\">No line came: this page knows nothing of any task.</p>";
     assert!(rt; shows(rt.alloc(), b"", none, "<tr id="));
     assert!(rt; shows(rt.alloc(), b"", no_line, "class=\"count\""));
@@ -176,14 +194,14 @@ fn who_holds_up_others_now_stands_above_all_else(rt: HostRuntime) {
 #[test]
 fn a_page_clears_nobody_by_one_line(rt: HostRuntime) {
     let unseen =
-        "Who held up others can&#39;t be seen: the lines span 0 ns, and it takes at least 100 ms.";
+        "Who held up others can&#39;t be seen: the lines span 0\u{a0}ns, and it takes at least 100\u{a0}ms.";
     assert!(rt; shows(rt.alloc(), POLLED, unseen, "class=\"fine\""));
 }
 
 #[test]
 fn a_page_shows_the_number_that_clears(rt: HostRuntime) {
     let calm =
-        "Nothing: no poll is known to have taken 100 ms. In the mean tasks waited 50 ns for a poll. They may have waited longer,";
+        "Nothing: no poll is known to have taken 100\u{a0}ms. In the mean tasks waited 50\u{a0}ns for a poll. They may have waited longer,";
     assert!(rt; later_shows(rt.alloc(), POLLED, calm, "class=\"now\""));
 }
 

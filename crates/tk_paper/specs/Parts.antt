@@ -58,16 +58,20 @@ abbrev pub tenths_of : ℕ → ℕ → List ℕ → List ℕ
 tenths_of few tenths unit =
     if nat_lt tenths few then count_of (tenths / 10) ++ (escaped (codes ".") ++ (number_of (tenths % 10) ++ escaped unit)) else count_of (tenths / 10) ++ escaped unit
 
+-- a unit after a number: the no-break space between them keeps both on one line
+abbrev pub unit : List ℕ → List ℕ
+unit name = 194 ∷ 160 ∷ name
+
 -- a share in thousandths, in percent: below 10 % with one digit after the point
 abbrev pub share_text : ℕ → List ℕ
-share_text share = tenths_of 100 share (codes " %")
+share_text share = tenths_of 100 share (unit (codes "%"))
 
 -- a time in nanoseconds, in the greatest unit of which it has one: rounded down to a tenth, with the digit after the point below 100
 abbrev pub span_text : ℕ → List ℕ
 span_text ns =
-    if nat_le 1000000000 ns then tenths_of 1000 (ns / 100000000) (codes " s") else
-    (if nat_le 1000000 ns then tenths_of 1000 (ns / 100000) (codes " ms") else
-    (if nat_le 1000 ns then tenths_of 1000 (ns / 100) (32 ∷ 194 ∷ 181 ∷ 115 ∷ []) else number_of ns ++ escaped (codes " ns")))
+    if nat_le 1000000000 ns then tenths_of 1000 (ns / 100000000) (unit (codes "s")) else
+    (if nat_le 1000000 ns then tenths_of 1000 (ns / 100000) (unit (codes "ms")) else
+    (if nat_le 1000 ns then tenths_of 1000 (ns / 100) (unit (194 ∷ 181 ∷ 115 ∷ [])) else number_of ns ++ escaped (unit (codes "ns"))))
 
 -- a number of thousandths, rounded down to one digit after the point
 abbrev pub mean_text : ℕ → List ℕ

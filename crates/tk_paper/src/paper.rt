@@ -250,21 +250,21 @@ impl Paper {
     fn share(&mut self, share: u64) -> Result<(), AllocError>
         ensures { OnOk result (Puts self.old self.new (share_text share) after_text) }
     {
-        self.tenths(100, share, " %")
+        self.tenths(100, share, "\u{a0}%")
     }
 
     fn span(&mut self, ns: u64) -> Result<(), AllocError>
         ensures { OnOk result (Puts self.old self.new (span_text ns) after_text) }
     {
         if ns >= 1_000_000_000 {
-            self.tenths(1000, ns / 100_000_000, " s")
+            self.tenths(1000, ns / 100_000_000, "\u{a0}s")
         } else if ns >= 1_000_000 {
-            self.tenths(1000, ns / 100_000, " ms")
+            self.tenths(1000, ns / 100_000, "\u{a0}ms")
         } else if ns >= 1_000 {
-            self.tenths(1000, ns / 100, " µs")
+            self.tenths(1000, ns / 100, "\u{a0}µs")
         } else {
             self.number(ns)?;
-            self.text(" ns")?;
+            self.text("\u{a0}ns")?;
             Ok(())
         }
     }

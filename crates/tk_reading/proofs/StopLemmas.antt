@@ -62,6 +62,7 @@ module _ (O : Type 0) (saw : List Timed → O → Type 0) (front piece : List �
         start = old.start;
         come = ap outcome_of (append-nil front) ∙ h.took.came;
         tables = ap (λ (t : Timed). t.0) s.kept;
+        times = ap (λ (t : Timed). t.1) s.kept;
         used = length front + e.used;
         stop = meaning-append greatest_line empty_start old.start front piece lines h.took.came
             ∙ ap (after lines (length front)) (piece_stops fault o)
@@ -104,6 +105,7 @@ module _ (O : Type 0) (saw : List Timed → O → Type 0) (front piece : List �
     start = h.start;
     come = ap outcome_of (sym (append_assoc front head h.part)) ∙ h.come;
     tables = h.tables;
+    times = h.times;
     used = h.used;
     stop = ap outcome_of (sym (whole_piece front piece at)) ∙ h.stop;
     seen = subst (λ bytes. saw (timed_of bytes) observer) (append_assoc front head h.part) h.seen;

@@ -12,7 +12,7 @@ use Rattle.tk_reading.specs.Shown.{timed_of}
 use Rattle.tk_reading.specs.Taken.{HasTaken}
 
 -- bytes and a piece after them have a fault, after so many lines of them and of a part of the piece. These were watched, and the
--- client has stopped at their tables
+-- client has stopped at their tables and histograms
 pub record StopsAfter {O : Type 0} (saw : List Timed → O → Type 0) (bytes piece : List ℕ) (lines : ℕ) (fault : Fault) (now : ClientView) (observer : O) : Type 0 where
   pub part : List ℕ
   pub rest : List ℕ
@@ -20,6 +20,7 @@ pub record StopsAfter {O : Type 0} (saw : List Timed → O → Type 0) (bytes pi
   pub start : Start
   pub come : outcome_of (bytes ++ part) ≡ goes start lines
   pub tables : now.start.tables ≡ start.tables
+  pub times : now.start.times ≡ start.times
   pub used : ℕ
   pub stop : outcome_of (bytes ++ piece) ≡ stops start.tables lines fault used
   pub seen : saw (timed_of (bytes ++ part)) observer

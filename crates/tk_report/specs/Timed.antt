@@ -1,7 +1,7 @@
 -- The report with what is known of how long polls ran and waits took: below a task its histograms, and after its warnings its long poll and its long wait.
-use Rattle.std.specs.Prelude.{ℕ, ◌*◌, ◌+◌, ◌==◌, List, [], ◌++◌, ◌∷◌, Bool, ◌||◌, false, codes, decimal, if◌then◌else◌, nat_le, Option, None, is_some, option_and_then}
+use Rattle.std.specs.Prelude.{ℕ, ◌*◌, ◌+◌, ◌==◌, List, [], ◌++◌, ◌∷◌, Bool, ◌||◌, false, codes, decimal, if◌then◌else◌, min, nat_le, Option, None, is_some, option_and_then}
 use Rattle.std.specs.List.{flat_map, position_from}
-use Rattle.std.specs.Option.{option_map_or}
+use Rattle.std.specs.Option.{option_map, option_map_or}
 use Rattle.tk_ids.specs.Ids.{id_text}
 use Rattle.tk_core.specs.Lists.{capped}
 use Rattle.tk_core.specs.Percentiles.{begin_of, end_of, total_of}
@@ -36,6 +36,14 @@ abbrev pub percentile_of : ℕ → List ℕ → Option ℕ
 percentile_of percent counts =
     if total_of counts == 0 then None
     else position_from (λ seen. nat_le (percent * total_of counts) (100 * seen)) 0 (sums_from 0 counts)
+
+-- what the times of a bucket don't pass: its end, or the longest of all where that is shorter
+abbrev pub high_of : ℕ → ℕ → ℕ
+high_of longest bucket = option_map_or (λ bound. min bound longest) (end_of bucket) longest
+
+-- what so many of a hundred times don't pass, by the bucket in which that percentile lies: none where there are no times
+abbrev pub percentile_high : ℕ → ℕ → List ℕ → Option ℕ
+percentile_high percent longest counts = option_map (high_of longest) (percentile_of percent counts)
 
 -- where a bucket ends. The last ends with the longest time, or with a hyphen where no histogram has such a longest time
 abbrev pub high_word : ℕ → ℕ → List ℕ

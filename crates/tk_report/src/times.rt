@@ -108,6 +108,29 @@ fn percentile_of(longest: u64, counts: &[u64; 14], percent: u64) -> Option<usize
     row.percentile(percent)
 }
 
+// What the times of a bucket don't pass.
+fn high_of(longest: u64, bucket: usize) -> u64
+    ensures { result ≡ spec.high_of longest bucket }
+{
+    match end_of(bucket) {
+        Some(bound) => bound.min(longest),
+        None => longest,
+    }
+}
+
+/// What so many of a hundred times of a histogram don't pass, 1 to 100, in nanoseconds: where the bucket ends in which that percentile lies, or the
+/// longest time where that is shorter. `None` where no time is counted.
+pub fn percentile_high(longest: u64, counts: &[u64; 14], percent: u64) -> Option<u64>
+    requires some { 1 ≤ percent }
+    requires most { percent ≤ 100 }
+    ensures { result ≡ spec.percentile_high percent longest counts.now }
+{
+    match percentile_of(longest, counts, percent) {
+        Some(bucket) => Some(high_of(longest, bucket)),
+        None => None,
+    }
+}
+
 fn put_percentile(
     out: &mut String,
     longest: u64,

@@ -19,11 +19,13 @@ use Rattle.tk_reading.specs.Taken.{HasTaken}
 use Rattle.tk_reading.proofs.ReadLemmas.{begins}
 use Rattle.tk_stream.specs.Sent.{IsCut}
 use Rattle.tk_stream.specs.Tables.{TablesView}
+use Rattle.tk_stream.specs.Times.{TaskTimes}
 use Rattle.tk_watch.specs.Keyed.{Coming, IsOver, Loses, Standing, WatchesKeys, after, asked_after, at_first, behind_in, broken, drawn, drawn_at, drawn_from, due, key, piece, shown_of, standing, is_no_key, text_at, text_of}
+use Rattle.tk_watch.proofs.OddLemmas.{times_all}
 use Rattle.tk_watch.specs.Course.{Sees}
 use Rattle.tk_watch.specs.Drawing.{Sends}
 use Rattle.tk_watch.specs.Keying.{Goes, Holds, IsFirst, Keying, SendsAt, Shows, Stands, held_then, holding, pressed_after, screen_after, screen_held}
-use Rattle.tk_watch.specs.Odd.{odd_in, seen_in}
+use Rattle.tk_watch.specs.Odd.{odd_in, seen_in, times_in}
 use Rattle.tk_watch.specs.Watching.{TakesTo}
 use Rattle.tk_watch.specs.declared.drawing.Screen.{Screen}
 use Rattle.tk_watch.specs.declared.seen.Course.{Course}
@@ -69,7 +71,7 @@ stays_from : (screen : Screen) (s : Standing) (more : List Coming) → s.asked.p
 stays_from screen s [] paused none n = refl
 stays_from screen s (piece p ∷ more) paused none n =
     stays_from screen (after screen s (piece p)) more paused none n
-    ∙ ap (λ b. asked_screen screen.canvas screen.query (odd_in screen.lints (shown_of b s.shown (s.bytes ++ p))) s.asked n (tables_in (outcome_of (shown_of b s.shown (s.bytes ++ p))))) paused
+    ∙ ap (λ b. asked_screen screen.canvas screen.query (odd_in screen.lints (shown_of b s.shown (s.bytes ++ p))) s.asked n (tables_in (outcome_of (shown_of b s.shown (s.bytes ++ p)))) (times_in (shown_of b s.shown (s.bytes ++ p)))) paused
 stays_from screen s (key k ∷ more) paused none n = absurd (true≢false (sym none))
 stays_from screen s (due ∷ more) paused none n = stays_from screen s more paused none n
 stays_from screen s (broken ∷ more) paused none n = stays_from screen s more paused none n
@@ -87,16 +89,18 @@ module _ (lints : LintsView) where
   holds_on paused shown all more None h = (h.0, subst (λ p. shown_of p shown more ≡ more) (sym h.0) refl)
   holds_on paused shown all more (Some x) h =
       let same : shown ≡ shown_of paused shown more = subst (λ p. shown ≡ shown_of p shown more) (sym h.0) refl in
-      (h.0, h.1 ∙ ap (λ b. tables_in (outcome_of b)) same, h.2 ∙ ap (odd_in lints) same)
+      (h.0, h.1 ∙ ap (λ b. tables_in (outcome_of b)) same, h.2 ∙ ap (odd_in lints) same, h.3 ∙ ap times_in same)
 
   -- a pause began, or ended
-  holds_turned : (tables : TablesView) (paused next : Bool) (shown all : List ℕ) (held : Option Held) → tables_in (outcome_of all) ≡ tables
-      → Holds lints paused shown all held → Holds lints next (shown_of next shown all) all (held_then next held (holding lints (seen_in all) tables))
-  holds_turned tables paused false shown all held are h = (refl, refl)
-  holds_turned tables paused true shown all (Some x) are h = (refl, h.1, h.2)
-  holds_turned tables paused true shown all None are h =
-      subst (λ t. Holds lints true shown all (Some (holding lints (seen_in all) t))) are
-      (refl, ap (λ b. tables_in (outcome_of b)) (sym h.1), ap (odd_in lints) (sym h.1))
+  holds_turned : (tables : TablesView) (times : List TaskTimes) (paused next : Bool) (shown all : List ℕ) (held : Option Held) → tables_in (outcome_of all) ≡ tables
+      → times_in all ≡ times → Holds lints paused shown all held
+      → Holds lints next (shown_of next shown all) all (held_then next held (holding lints (seen_in all) tables times))
+  holds_turned tables times paused false shown all held are beside h = (refl, refl)
+  holds_turned tables times paused true shown all (Some x) are beside h = (refl, h.1, h.2, h.3)
+  holds_turned tables times paused true shown all None are beside h =
+      subst (λ t. Holds lints true shown all (Some (holding lints (seen_in all) t times))) are
+      (subst (λ t. Holds lints true shown all (Some (holding lints (seen_in all) (tables_in (outcome_of all)) t))) beside
+      (refl, ap (λ b. tables_in (outcome_of b)) (sym h.1), ap (odd_in lints) (sym h.1), ap times_in (sym h.1)))
 
 -- what is held anew
 pub held_new : (paused : Bool) (old : Option Held) (now h : Held) → paused ≡ true → is_some old ≡ false → h ≡ now → Some h ≡ held_then paused old now
@@ -110,22 +114,24 @@ pub held_is : (screen : Screen) (st : Standing) (s : Session) (h : Held) → Sho
 held_is screen st s h shows is =
     let holds : Holds screen.lints st.asked.paused st.shown st.bytes (Some h) = subst (Holds screen.lints st.asked.paused st.shown st.bytes) is shows.holds in
     let now = s.course.client.start.tables.now in
-    ap (λ o. asked_screen screen.canvas screen.query o s.asked (now - h.tables.now) h.tables) holds.2
-    ∙ ap (λ (t : TablesView). asked_screen screen.canvas screen.query (odd_in screen.lints st.shown) s.asked (now - t.now) t) holds.1
-    ∙ ap (λ (t : TablesView). asked_screen screen.canvas screen.query (odd_in screen.lints st.shown) s.asked (t.now - (tables_in (outcome_of st.shown)).now) (tables_in (outcome_of st.shown))) (sym shows.tables)
-    ∙ ap (λ a. asked_screen screen.canvas screen.query (odd_in screen.lints st.shown) a (behind_in st) (tables_in (outcome_of st.shown))) shows.asked
+    ap (λ o. asked_screen screen.canvas screen.query o s.asked (now - h.tables.now) h.tables h.times) holds.2
+    ∙ ap (λ (x : List TaskTimes). asked_screen screen.canvas screen.query (odd_in screen.lints st.shown) s.asked (now - h.tables.now) h.tables x) holds.3
+    ∙ ap (λ (t : TablesView). asked_screen screen.canvas screen.query (odd_in screen.lints st.shown) s.asked (now - t.now) t (times_in st.shown)) holds.1
+    ∙ ap (λ (t : TablesView). asked_screen screen.canvas screen.query (odd_in screen.lints st.shown) s.asked (t.now - (tables_in (outcome_of st.shown)).now) (tables_in (outcome_of st.shown)) (times_in st.shown)) (sym shows.tables)
+    ∙ ap (λ a. asked_screen screen.canvas screen.query (odd_in screen.lints st.shown) a (behind_in st) (tables_in (outcome_of st.shown)) (times_in st.shown)) shows.asked
 
 -- or of what a client has come to
 pub none_is : (screen : Screen) (st : Standing) (s : Session) → Shows screen.lints st s → s.held ≡ None
-    → screen_after screen (seen_in st.bytes) s.asked s.course.client.start.tables ≡ text_of screen st
+    → screen_after screen (seen_in st.bytes) s.asked s.course.client.start.tables s.course.client.start.times ≡ text_of screen st
 none_is screen st s shows is =
     let holds : Holds screen.lints st.asked.paused st.shown st.bytes None = subst (Holds screen.lints st.asked.paused st.shown st.bytes) is shows.holds in
     let same : 0 ≡ behind_in st =
     subst (λ b. 0 ≡ (tables_in (outcome_of b)).now - (tables_in (outcome_of st.shown)).now) holds.1 (omega arith) in
-    ap (screen_after screen (seen_in st.bytes) s.asked) (sym shows.tables)
-    ∙ ap (λ b. asked_screen screen.canvas screen.query (odd_in screen.lints b) s.asked 0 (tables_in (outcome_of b))) (sym holds.1)
-    ∙ ap (λ n. asked_screen screen.canvas screen.query (odd_in screen.lints st.shown) s.asked n (tables_in (outcome_of st.shown))) same
-    ∙ ap (λ a. asked_screen screen.canvas screen.query (odd_in screen.lints st.shown) a (behind_in st) (tables_in (outcome_of st.shown))) shows.asked
+    ap (λ (t : TablesView). screen_after screen (seen_in st.bytes) s.asked t s.course.client.start.times) (sym shows.tables)
+    ∙ ap (screen_after screen (seen_in st.bytes) s.asked (tables_in (outcome_of st.bytes))) (sym shows.times)
+    ∙ ap (λ b. asked_screen screen.canvas screen.query (odd_in screen.lints b) s.asked 0 (tables_in (outcome_of b)) (times_in b)) (sym holds.1)
+    ∙ ap (λ n. asked_screen screen.canvas screen.query (odd_in screen.lints st.shown) s.asked n (tables_in (outcome_of st.shown)) (times_in st.shown)) same
+    ∙ ap (λ a. asked_screen screen.canvas screen.query (odd_in screen.lints st.shown) a (behind_in st) (tables_in (outcome_of st.shown)) (times_in st.shown)) shows.asked
 
 -- what keys ask for, while what is held is shown
 pub held_pressed : (screen : Screen) (st : Standing) (s : Session) (h : Held) (k : ℕ) → Shows screen.lints st s → s.held ≡ Some h
@@ -156,6 +162,7 @@ starts_keys screen old came s new = record {
     taken = subst (λ n. HasTaken [] n s.course.client) (sym new.lines) (begins s.course.client new.course.client);
     shows = record {
       tables = ap (λ (c : ClientView). c.start.tables) (sym new.course.client);
+      times = ap (λ (c : ClientView). c.start.times) (sym new.course.client);
       seen = new.course.seen;
       asked = new.asked;
       holds = subst (Holds screen.lints false [] []) (sym new.held) (refl, refl);
@@ -203,6 +210,7 @@ module _ (screen : Screen) (given left : Option (List Coming)) (s : Session) (ol
       taken = taken;
       shows = record {
         tables = ap tables_in taken.took.came;
+        times = times_all (st.bytes ++ p) sum then.client taken;
         seen = seen;
         asked = w.stands.shows.asked;
         holds = holds_on screen.lints st.asked.paused st.shown st.bytes (st.bytes ++ p) s.held w.stands.shows.holds;
@@ -242,7 +250,7 @@ module _ (screen : Screen) (given left : Option (List Coming)) (s : Session) (ol
   -- a key was pressed
   module _ (new : Option (List Coming)) (k : ℕ) (lost : Loses left new (key k ∷ [])) (then : Session) (asked : then.asked ≡ asked_after screen st k)
       (same : then.course ≡ s.course) (lines : then.lines ≡ s.lines)
-      (turns : then.held ≡ held_then then.asked.paused s.held (holding screen.lints (seen_in st.bytes) s.course.client.start.tables)) where
+      (turns : then.held ≡ held_then then.asked.paused s.held (holding screen.lints (seen_in st.bytes) s.course.client.start.tables s.course.client.start.times)) where
     asked_is : then.asked ≡ (standing screen (w.events ++ key k ∷ [])).asked
     asked_is = asked ∙ ap (λ (t : Standing). t.asked) (sym (standing_more screen w.events (key k)))
 
@@ -253,11 +261,13 @@ module _ (screen : Screen) (given left : Option (List Coming)) (s : Session) (ol
           taken = subst (λ n. HasTaken st.bytes n then.course.client) (sym lines) (subst (λ (c : Course). HasTaken st.bytes s.lines c.client) (sym same) w.stands.taken);
           shows = record {
             tables = w.stands.shows.tables ∙ ap (λ (c : Course). c.client.start.tables) (sym same);
+            times = w.stands.shows.times ∙ ap (λ (c : Course). c.client.start.times) (sym same);
             seen = subst (λ (c : Course). Sees screen.lints (seen_in st.bytes) c.seen) (sym same) w.stands.shows.seen;
             asked = is;
             holds = subst (λ (a : Asked). Holds screen.lints a.paused (shown_of a.paused st.shown st.bytes) st.bytes then.held) is
                 (subst (Holds screen.lints then.asked.paused (shown_of then.asked.paused st.shown st.bytes) st.bytes) (sym turns)
-                (holds_turned screen.lints s.course.client.start.tables st.asked.paused then.asked.paused st.shown st.bytes s.held w.stands.shows.tables w.stands.shows.holds));
+                (holds_turned screen.lints s.course.client.start.tables s.course.client.start.times st.asked.paused then.asked.paused st.shown st.bytes s.held w.stands.shows.tables w.stands.shows.times
+                w.stands.shows.holds));
           };
         }
 
@@ -298,6 +308,7 @@ module _ (screen : Screen) (given left : Option (List Coming)) (s : Session) (ol
         → Shows screen.lints (standing screen (w.events ++ piece p ∷ [])) (record s { course = next })
     shows_faulty n fault h = subst (λ t. Shows screen.lints t (record s { course = next })) (sym (standing_more screen w.events (piece p))) (record {
       tables = ap tables_in h.1;
+      times = h.3;
       seen = h.2;
       asked = w.stands.shows.asked;
       holds = holds_on screen.lints st.asked.paused st.shown st.bytes (st.bytes ++ p) s.held w.stands.shows.holds;

@@ -4,7 +4,7 @@ use Rattle.std.specs.List.{fold}
 use Rattle.std.specs.Option.{option_map}
 use Rattle.std.proofs.lemmas.List.Sums.{fold-append}
 use Rattle.tk_client.specs.declared.fault.Fault.{Fault}
-use Rattle.tk_client.specs.Changes.{Timed}
+use Rattle.tk_client.specs.Changes.{Timed, untimed}
 use Rattle.tk_client.specs.Feeding.{ClientView}
 use Rattle.tk_client.specs.Meaning.{Outcome, Start, cut, empty_start, goes, greatest_line, stops}
 use Rattle.tk_client.specs.Warnings.{LintsView}
@@ -25,13 +25,13 @@ use Rattle.tk_sites.specs.Inner.{Follows as FollowsSites}
 use Rattle.tk_reading.specs.Fronts.{IsFront, Rise, last_lines, lines_in}
 use Rattle.tk_reading.specs.Outcomes.{outcome_of}
 use Rattle.tk_reading.specs.Reads.{StopsAfter, TakesMore}
-use Rattle.tk_reading.specs.Shown.{shown_of, tables_of, timed_from}
+use Rattle.tk_reading.specs.Shown.{last_timed, shown_of, tables_of, timed_from, timed_of}
 use Rattle.tk_reading.specs.Taken.{HasTaken}
 use Rattle.tk_reading.proofs.FrontLemmas.{front_few, last_more}
-use Rattle.tk_reading.proofs.ShownLemmas.{shown-append, shown_count}
+use Rattle.tk_reading.proofs.ShownLemmas.{last_taken, shown-append, shown_count, timed-append, timed_count}
 use Rattle.tk_stream.specs.Tables.{TablesView}
 use Rattle.tk_watch.specs.Course.{Keeps, Sees, first_or, span_to}
-use Rattle.tk_watch.specs.Odd.{first_moment, odd_after, places_after, seen_in}
+use Rattle.tk_watch.specs.Odd.{first_moment, odd_after, places_after, seen_in, times_in}
 use Rattle.tk_watch.specs.Waits.{waits_after}
 use Rattle.tk_watch.specs.Watching.{TakesTo}
 use Rattle.tk_watch.specs.declared.seen.Course.{Course}
@@ -73,6 +73,33 @@ seen_to : (saw : List Timed → Seen → Type 0) (front piece : List ℕ) (n : �
 seen_to saw front piece n fault now seen h =
     let whole : front ++ piece ≡ (front ++ h.part) ++ h.rest = ap (λ xs. front ++ xs) h.whole ∙ sym (append_assoc front h.part h.rest) in
     ap seen_in whole ∙ seen_front (front ++ h.part) h.rest h.start n h.come (ap (λ xs. lines_in (outcome_of xs)) (sym whole) ∙ ap lines_in h.stop)
+
+-- ---- the histograms after them
+
+-- those after bytes without a fault, and more of which no line is applied
+times_front : (good rest : List ℕ) (s : Start) (n : ℕ) → outcome_of good ≡ goes s n → lines_in (outcome_of (good ++ rest)) ≡ n → times_in (good ++ rest) ≡ s.times
+times_front good rest s n come lines =
+    let now : ClientView = record { start = s; has_failed = false; max_line = greatest_line } in
+    let taken : HasTaken good n now = record { took = record { came = come; sound = refl }; limit = refl } in
+    ap₂ (λ (k : ℕ) (xs : List Timed). (last_timed untimed (take k xs)).1) lines (timed-append greatest_line empty_start s good rest n come)
+    ∙ ap (λ (xs : List Timed). (last_timed untimed xs).1) (take_front n (timed_of good) (timed_from s (cut rest).0) (timed_count good n now taken))
+    ∙ ap (λ (t : Timed). t.1) (last_taken good n now taken)
+
+-- those after bytes that are taken
+pub times_all : (bytes : List ℕ) (lines : ℕ) (now : ClientView) → HasTaken bytes lines now → times_in bytes ≡ now.start.times
+times_all bytes lines now h =
+    ap times_in (sym (append-nil bytes))
+    ∙ times_front bytes [] now.start lines h.took.came (ap (λ xs. lines_in (outcome_of xs)) (append-nil bytes) ∙ ap lines_in h.took.came)
+
+-- at a fault those before it
+times_to : (saw : List Timed → Seen → Type 0) (front piece : List ℕ) (n : ℕ) (fault : Fault) (now : ClientView) (seen : Seen) (h : StopsAfter saw front piece n fault now seen)
+    → times_in (front ++ piece) ≡ now.start.times
+times_to saw front piece n fault now seen h =
+    let whole : front ++ piece ≡ (front ++ h.part) ++ h.rest = ap (λ xs. front ++ xs) h.whole ∙ sym (append_assoc front h.part h.rest) in
+    ap times_in whole ∙ times_front (front ++ h.part) h.rest h.start n h.come (ap (λ xs. lines_in (outcome_of xs)) (sym whole) ∙ ap lines_in h.stop)
+    ∙ sym h.times
+
+-- ---- fronts
 
 -- bytes, and a front of them that has all their lines
 seen_last : (last bytes : List ℕ) (front : IsFront last bytes) (t : Start) (n : ℕ) → outcome_of bytes ≡ goes t n → n ≤ lines_in (outcome_of last) → seen_in last ≡ seen_in bytes
@@ -228,6 +255,7 @@ takes_to lints front piece now (Err (faults.Stream lines fault)) h = (
   h.used,
   h.stop ∙ ap (λ t. stops t lines fault h.used) (sym h.tables),
   subst (λ (xs : List TablesView). Sees lints xs now.seen) (sym (seen_to (sees_in lints) front piece lines fault now.client now.seen h)) h.seen,
+  times_to (sees_in lints) front piece lines fault now.client now.seen h,
 )
 
 -- the same, by what a piece is fed to

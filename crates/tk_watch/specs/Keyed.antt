@@ -13,7 +13,7 @@ use Rattle.tk_reading.specs.Fronts.{tables_in}
 use Rattle.tk_reading.specs.Outcomes.{outcome_of}
 use Rattle.tk_stream.specs.Sent.{IsCut}
 use Rattle.tk_stream.specs.Tables.{TablesView}
-use Rattle.tk_watch.specs.Odd.{odd_in}
+use Rattle.tk_watch.specs.Odd.{odd_in, times_in}
 use Rattle.tk_watch.specs.declared.drawing.Screen.{Screen}
 use Rattle.tk_watch.specs.declared.source.Event.{Event}
 use Rattle.tk_watch.specs.declared.source.Event.TheVariants.{Piece, Key, Due, Broken}
@@ -100,9 +100,10 @@ quits screen events = (standing screen events).asked.quits
 abbrev pub behind_in : Standing → ℕ
 behind_in s = (tables_in (outcome_of s.bytes)).now - (tables_in (outcome_of s.shown)).now
 
--- the screen of what stands, so far behind: what keys asked for of the tables that the shown bytes come to, and of what is odd about all of these bytes
+-- the screen of what stands, so far behind: what keys asked for of the tables and histograms that the shown bytes come to, and of what is odd about all of
+-- these bytes
 abbrev pub text_at : ℕ → Screen → Standing → List ℕ
-text_at behind screen s = asked_screen screen.canvas screen.query (odd_in screen.lints s.shown) s.asked behind (tables_in (outcome_of s.shown))
+text_at behind screen s = asked_screen screen.canvas screen.query (odd_in screen.lints s.shown) s.asked behind (tables_in (outcome_of s.shown)) (times_in s.shown)
 
 abbrev pub text_of : Screen → Standing → List ℕ
 text_of screen s = text_at (behind_in s) screen s

@@ -11,30 +11,31 @@ use Rattle.tk_reading.specs.Fronts.{tables_in}
 use Rattle.tk_reading.specs.Outcomes.{outcome_of}
 use Rattle.tk_reading.specs.Taken.{HasTaken}
 use Rattle.tk_stream.specs.Tables.{TablesView}
+use Rattle.tk_stream.specs.Times.{TaskTimes}
 use Rattle.tk_watch.specs.Course.{IsNew, Sees}
 use Rattle.tk_watch.specs.Drawing.{SendsBefore}
 use Rattle.tk_watch.specs.Keyed.{Coming, Loses, Standing, WatchesKeys, drawn, standing, text_of}
-use Rattle.tk_watch.specs.Odd.{odd_after, odd_in, seen_in}
+use Rattle.tk_watch.specs.Odd.{odd_after, odd_in, seen_in, times_in}
 use Rattle.tk_watch.specs.declared.drawing.Screen.{Screen}
 use Rattle.tk_watch.specs.declared.session.Held.{Held}
 use Rattle.tk_watch.specs.declared.session.Session.{Session}
 
--- the screen that keys ask for of tables to which these lines came
-abbrev pub screen_after : Screen → List TablesView → Asked → TablesView → List ℕ
-screen_after screen shown asked tables = asked_screen screen.canvas screen.query (odd_after screen.lints shown tables) asked 0 tables
+-- the screen that keys ask for of tables and histograms to which these lines came
+abbrev pub screen_after : Screen → List TablesView → Asked → TablesView → List TaskTimes → List ℕ
+screen_after screen shown asked tables times = asked_screen screen.canvas screen.query (odd_after screen.lints shown tables) asked 0 tables times
 
 -- the screen of what is held, so far behind what came
 abbrev pub screen_held : Screen → Held → Session → List ℕ
 screen_held screen held s =
-    asked_screen screen.canvas screen.query held.odd s.asked (s.course.client.start.tables.now - held.tables.now) held.tables
+    asked_screen screen.canvas screen.query held.odd s.asked (s.course.client.start.tables.now - held.tables.now) held.tables held.times
 
 -- what keys ask for once a key was pressed, while tables are shown to which these lines came
 abbrev pub pressed_after : Screen → List TablesView → Asked → TablesView → ℕ → Asked
 pressed_after screen shown asked tables k = pressed screen.canvas screen.query (odd_after screen.lints shown tables) tables asked k
 
--- tables to which these lines came, and what is odd about them
-abbrev pub holding : LintsView → List TablesView → TablesView → Held
-holding lints shown tables = record { tables = tables; odd = odd_after lints shown tables }
+-- tables and histograms to which these lines came, and what is odd about them
+abbrev pub holding : LintsView → List TablesView → TablesView → List TaskTimes → Held
+holding lints shown tables times = record { tables = tables; times = times; odd = odd_after lints shown tables }
 
 -- what is held: in a pause what was held or stands at its beginning
 abbrev pub held_then : Bool → Option Held → Held → Option Held
@@ -43,11 +44,12 @@ held_then paused old now = if paused then (if is_some old then old else Some now
 -- what is held stands for the bytes that are shown
 abbrev pub Holds : LintsView → Bool → List ℕ → List ℕ → Option Held → Type 0
 Holds lints paused shown all None = (paused ≡ false) × (shown ≡ all)
-Holds lints paused shown all (Some h) = (paused ≡ true) × (h.tables ≡ tables_in (outcome_of shown)) × (h.odd ≡ odd_in lints shown)
+Holds lints paused shown all (Some h) = (paused ≡ true) × (h.tables ≡ tables_in (outcome_of shown)) × (h.odd ≡ odd_in lints shown) × (h.times ≡ times_in shown)
 
--- a session shows what stands: its tables are those of the bytes that came, whose lines it has seen
+-- a session shows what stands: its tables and histograms are those of the bytes that came, whose lines it has seen
 pub record Shows (lints : LintsView) (st : Standing) (s : Session) : Type 0 where
   pub tables : tables_in (outcome_of st.bytes) ≡ s.course.client.start.tables
+  pub times : times_in st.bytes ≡ s.course.client.start.times
   pub seen : Sees lints (seen_in st.bytes) s.course.seen
   pub asked : s.asked ≡ st.asked
   pub holds : Holds lints st.asked.paused st.shown st.bytes s.held

@@ -1,6 +1,7 @@
 -- What a screen tells of what is odd about a stream, as far as its lines came.
 use Rattle.std.specs.Prelude.{ℕ, ◌-◌, List, [], ◌∷◌, take, Option, Some, None}
 use Rattle.std.specs.Option.{option_map}
+use Rattle.tk_client.specs.Changes.{untimed}
 use Rattle.tk_client.specs.Warnings.{LintsView}
 use Rattle.tk_frame.specs.Findings.{OddView}
 use Rattle.tk_frame.specs.Places.{PlaceRow, places_in}
@@ -8,15 +9,20 @@ use Rattle.tk_odd.specs.Diagnosis.{standing_of}
 use Rattle.tk_odd.specs.Findings.{findings_of}
 use Rattle.tk_reading.specs.Fronts.{lines_in, tables_in}
 use Rattle.tk_reading.specs.Outcomes.{outcome_of}
-use Rattle.tk_reading.specs.Shown.{shown_of}
+use Rattle.tk_reading.specs.Shown.{last_timed, shown_of, timed_of}
 use Rattle.tk_sites.specs.Sites.{sites_until}
 use Rattle.tk_stream.specs.Tables.{TablesView}
+use Rattle.tk_stream.specs.Times.{TaskTimes}
 use Rattle.tk_watch.specs.Recent.{limits_of, noted_of, recent_after}
 use Rattle.tk_watch.specs.Waits.{waits_after}
 
 -- the tables after each line of a stream's bytes that is applied: at a fault those before it
 abbrev pub seen_in : List ℕ → List TablesView
 seen_in bytes = take (lines_in (outcome_of bytes)) (shown_of bytes)
+
+-- the histograms beside the tables that a stream's bytes come to: at a fault those that stood before it
+abbrev pub times_in : List ℕ → List TaskTimes
+times_in bytes = (last_timed untimed (take (lines_in (outcome_of bytes)) (timed_of bytes))).1
 
 -- the moment of the first line, where one came
 abbrev pub first_moment : List TablesView → Option ℕ

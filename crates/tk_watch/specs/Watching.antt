@@ -11,7 +11,7 @@ use Rattle.tk_reading.specs.Outcomes.{outcome_of}
 use Rattle.tk_reading.specs.Pacing.{Says}
 use Rattle.tk_reading.specs.Taken.{HasTaken}
 use Rattle.tk_watch.specs.Course.{Sees}
-use Rattle.tk_watch.specs.Odd.{seen_in}
+use Rattle.tk_watch.specs.Odd.{seen_in, times_in}
 use Rattle.tk_watch.specs.Turns.{IsPaced}
 use Rattle.tk_watch.specs.Watches.{Watches, WritesAll, screen_of}
 use Rattle.tk_watch.specs.declared.drawing.Screen.{Screen}
@@ -65,10 +65,10 @@ abbrev pub Covers : Option ℕ → ℕ → Type 0
 Covers None lines = ⊥
 Covers (Some drawn) lines = lines ≤ drawn
 
--- bytes were taken, or have a fault before which these tables stood, and the lines before it were seen; or there was no memory
+-- bytes were taken, or have a fault before which these tables and histograms stood, and the lines before it were seen; or there was no memory
 abbrev pub TakesTo : LintsView → List ℕ → Result ℕ AppFault → Course → Type 0
 TakesTo lints bytes (Ok lines) now = HasTaken bytes lines now.client × Sees lints (seen_in bytes) now.seen
 TakesTo lints bytes (Err (faults.Stream lines fault)) now =
-    (used : ℕ) × (outcome_of bytes ≡ stops now.client.start.tables lines fault used) × Sees lints (seen_in bytes) now.seen
+    (used : ℕ) × (outcome_of bytes ≡ stops now.client.start.tables lines fault used) × Sees lints (seen_in bytes) now.seen × (times_in bytes ≡ now.client.start.times)
 TakesTo lints bytes (Err faults.Memory) now = Unit {0}
 TakesTo lints bytes (Err other) now = ⊥

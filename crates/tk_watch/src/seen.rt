@@ -143,6 +143,13 @@ impl Course {
         self.client.tables()
     }
 
+    /// The histograms beside them.
+    pub fn times(&self) -> &Times
+        ensures { result.now ≡ self.now.client.start.times }
+    {
+        self.client.times()
+    }
+
     /// What is odd about them.
     pub fn odd(&self, alloc: Global) -> Result<Odd, AllocError>
         ensures { (lints : LintsView) (shown : List TablesView) → spec.Sees lints shown self.now.seen

@@ -13,15 +13,17 @@ use crate::drawing::Screen;
 use crate::seen::Course;
 use std::alloc::{AllocError, Global};
 use std::io::Write;
+use tk_client::Times;
 use tk_fault::AppFault;
 use tk_frame::{Asked, Odd, asked_frame, press};
 use tk_screen::put_screen;
 use tk_stream::{Tables, send};
 
-/// Tables, and what is odd about them.
+/// Tables, the histograms beside them, and what is odd about them.
 #[derive(Drop)]
 pub(crate) struct Held {
     pub tables: Tables,
+    pub times: Times,
     pub odd: Odd,
 }
 
@@ -38,15 +40,17 @@ pub(crate) struct Session {
 fn text_by(
     alloc: Global,
     tables: &Tables,
+    times: &Times,
     odd: &Odd,
     screen: &Screen<'_>,
     asked: &Asked,
     behind: u64,
 ) -> Result<Vec<u8>, AllocError>
-    ensures { IfOk result (λ text. text.items ≡ asked_screen screen.now.canvas screen.now.query odd.now asked.now behind tables.now) }
+    ensures { IfOk result (λ text. text.items ≡ asked_screen screen.now.canvas screen.now.query odd.now asked.now behind tables.now times.now) }
 {
     let canvas = asked.canvas(screen.canvas);
-    let lines = asked_frame(alloc, canvas, tables, odd, &screen.query, asked, behind)?;
+    let query = &screen.query;
+    let lines = asked_frame(alloc, canvas, tables, times, odd, query, asked, behind)?;
     let mut text = Vec::new(alloc);
     put_screen(&mut text, canvas, lines.as_slice())?;
     Ok(text)
@@ -60,10 +64,11 @@ fn text_of_course(
     asked: &Asked,
 ) -> Result<Vec<u8>, AllocError>
     ensures { (shown : List TablesView) → Sees screen.now.lints shown course.now.seen
-        → IfOk result (λ text. text.items ≡ spec.screen_after screen.now shown asked.now course.now.client.start.tables) }
+        → IfOk result (λ text. text.items ≡ spec.screen_after screen.now shown asked.now course.now.client.start.tables course.now.client.start.times) }
 {
+    let times = course.times();
     match course.odd(alloc) {
-        Ok(odd) => text_by(alloc, course.tables(), &odd, screen, asked, 0),
+        Ok(odd) => text_by(alloc, course.tables(), times, &odd, screen, asked, 0),
         Err(error) => Err(error),
     }
 }
@@ -82,6 +87,7 @@ fn text_of_held(
     text_by(
         alloc,
         &held.tables,
+        &held.times,
         &held.odd,
         screen,
         &session.asked,
@@ -165,22 +171,21 @@ pub(crate) fn press_on(
     }
 }
 
-// The tables of a client, to be held with what is odd about them.
+// The tables of a client and its histograms, to be held with what is odd about them.
 fn hold(course: &Course, alloc: Global) -> Result<Held, AllocError>
     ensures { (lints : LintsView) (shown : List TablesView) → Sees lints shown course.now.seen
-        → IfOk result (λ held. held ≡ spec.holding lints shown course.now.client.start.tables) }
+        → IfOk result (λ held. held ≡ spec.holding lints shown course.now.client.start.tables course.now.client.start.times) }
 {
     let odd = course.odd(alloc)?;
-    match course.tables().copy() {
-        Ok(tables) => Ok(Held { tables, odd }),
-        Err(error) => Err(error),
-    }
+    let tables = course.tables().copy()?;
+    let times = course.times().copy()?;
+    Ok(Held { tables, times, odd })
 }
 
 /// Holds what is shown from a pause on, and till it ends.
 pub(crate) fn turn(session: &mut Session, alloc: Global, paused: bool) -> Result<(), AllocError>
     ensures held { (lints : LintsView) (shown : List TablesView) → Sees lints shown session.old.course.seen
-        → OnOk result (session.new.held ≡ spec.held_then paused session.old.held (spec.holding lints shown session.old.course.client.start.tables)) }
+        → OnOk result (session.new.held ≡ spec.held_then paused session.old.held (spec.holding lints shown session.old.course.client.start.tables session.old.course.client.start.times)) }
     ensures course { session.new.course ≡ session.old.course }
     ensures lines { session.new.lines ≡ session.old.lines }
 {

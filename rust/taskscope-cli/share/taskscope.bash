@@ -48,7 +48,7 @@ _taskscope() {
     run) all='--explain --help' ;;
     view) all='--self-wake-percent --never-yielded-ns --long-poll --long-wait --findings --by --until --times --place --explain --help' ;;
     lint) all='--self-wake-percent --never-yielded-ns --long-poll --long-wait --findings --by --until --explain --help' ;;
-    page) all='--self-wake-percent --never-yielded-ns --long-poll --title --until --help' ;;
+    page) all='--self-wake-percent --never-yielded-ns --long-poll --title --until --explain --help' ;;
     watch) all='--self-wake-percent --never-yielded-ns --sort --rows --filter --resources --by --every --follow --keys --plain --help' ;;
     metrics) all='--self-wake-percent --never-yielded-ns --by --to --every --follow --series --until --help' ;;
     compare) all='--self-wake-percent --never-yielded-ns --long-poll --more-than --at-least --help' ;;

@@ -38,6 +38,7 @@ complete -c taskscope -n '__fish_seen_subcommand_from page' -l never-yielded-ns 
 complete -c taskscope -n '__fish_seen_subcommand_from page' -l long-poll -x -d 'Warn of a poll that ran for so many milliseconds, from 1 on'
 complete -c taskscope -n '__fish_seen_subcommand_from page' -l title -x -d 'Give the page this title, in place of the path of its file'
 complete -c taskscope -n '__fish_seen_subcommand_from page' -l until -x -d 'Leave out what comes after this moment: nanoseconds, or a time before the end of FILE, as 12.5s'
+complete -c taskscope -n '__fish_seen_subcommand_from page' -l explain -d 'Print below a fault its line and the rule that it breaks, or else what was left out'
 complete -c taskscope -n '__fish_seen_subcommand_from page' -l help -s h -d 'Print help (see a summary with '\''-h'\'')'
 complete -c taskscope -n '__fish_seen_subcommand_from page' -F
 complete -c taskscope -n '__fish_seen_subcommand_from watch' -l self-wake-percent -x -d 'Warn if more of a hundred wakes are a task'\''s own [default: 50]'

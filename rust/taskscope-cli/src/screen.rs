@@ -14,9 +14,10 @@ const WRAP: &[u8] = b"\x1b[?7h";
 const OWN: &[u8] = b"\x1b[?1049h";
 const SHARED: &[u8] = b"\x1b[?1049l";
 
-/// Asks the terminal how many lines and columns it has. It answers as if somebody typed `ESC [ 8 ; LINES ; COLUMNS t`, so the proved program hears it
-/// among its keys.
-const ASK_SIZE: &[u8] = b"\x1b[18t";
+/// Asks the terminal how many lines and columns it has: the cursor is sent to the last of both, asked where it stands, and put back. The terminal answers
+/// as if somebody typed `ESC [ LINES ; COLUMNS R`, so the proved program hears it among its keys. `ESC [ 18 t` would ask for both, but tmux 3.3
+/// answers with lines and columns exchanged.
+const ASK_SIZE: &[u8] = b"\x1b7\x1b[9999;9999H\x1b[6n\x1b8";
 
 /// Whether the watch has the terminal, and hears its size.
 static HEARS_SIZE: AtomicBool = AtomicBool::new(false);

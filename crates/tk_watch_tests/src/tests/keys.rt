@@ -3,7 +3,7 @@
 ghost use Rattle.std.specs.Prelude.{Option, length};
 ghost use Rattle.tk_watch.specs.Keyed.{IsWithin};
 
-use super::given::{EARLY, FIRST, LATE, ODD, SECOND, SEMAPHORE, THIRD, is_text_of};
+use super::given::{EARLY, FIRST, LATE, ODD, SECOND, SEMAPHORE, THIRD, TIMED, is_text_of};
 use std::alloc::Global;
 use std::sync::Wait;
 use std::thread::Threads;
@@ -376,6 +376,45 @@ fn a_text_is_typed_and_names_what_is_shown(rt: HostRuntime) {
 const RESIZED: &str =
     "\x1b[H\x1b[Ksorted by busy  ? sh\n\x1b[Know 1.0 s  tasks 2: \n\x1b[K 1 NOW     resize 1.\n\x1b[K 2 NOW     main 1.1 \n\x1b[K.. and 1 more\n\x1b[J";
 
+const SILENT: &str = "sorted by busy  nothing came for 12.0 s  ? shows the keys
+now 1.0 s  tasks 2: 1 polling, 0 scheduled, 1 idle, 0 closed  findings 3
+ 1 NOW     resize 1.2 has never yielded, for 1.0 s (never-yielded, script:2:1)
+ 2 NOW     main 1.1 can be woken by nobody, for 999.9 ms (lost-waker, script:1:1)
+ 3 NOW     main 1.1 wakes itself, 66% of its wakes (self-wakes, script:1:1)
+  TASK STATE         BUSY    SCHED  POLLS  WAKES SELF LOCATION        NAME                 KIND
+>   1.2 polling      1.0 s    50 ns      1      0    - script:2:1      resize               spawn
+   1.1 idle         20 ns   100 ns      2      3  66% script:1:1      main                 spawn
+2 of 2 tasks
+
+";
+
+#[test]
+fn it_is_said_for_how_long_nothing_came(rt: HostRuntime) {
+    let silent = [
+        Bytes(ODD),
+        key(b'\x1b'),
+        key(b'['),
+        key(b'1'),
+        key(b'2'),
+        key(b'w'),
+        DUE,
+    ];
+    assert!(rt; draws(rt.alloc(), &silent, "", SILENT, 7));
+    let over = [
+        Bytes(ODD),
+        key(b'\x1b'),
+        key(b'['),
+        key(b'9'),
+        key(b'w'),
+        key(b'\x1b'),
+        key(b'['),
+        key(b'0'),
+        key(b'w'),
+        DUE,
+    ];
+    assert!(rt; draws(rt.alloc(), &over, "", ODD_BY_BUSY, 10));
+}
+
 #[test]
 fn a_terminal_tells_its_size(rt: HostRuntime) {
     let canvas = Canvas::Terminal {
@@ -399,6 +438,18 @@ fn a_terminal_tells_its_size(rt: HostRuntime) {
         DUE,
     ];
     assert!(rt; draws_on(rt.alloc(), 10, canvas, &answer, "", RESIZED, 11));
+    let corner = [
+        Bytes(ODD),
+        key(b'\x1b'),
+        key(b'['),
+        key(b'6'),
+        key(b';'),
+        key(b'2'),
+        key(b'0'),
+        key(b'R'),
+        DUE,
+    ];
+    assert!(rt; draws_on(rt.alloc(), 10, canvas, &corner, "", RESIZED, 9));
 }
 
 const ODD_DETAILS: &str = "sorted by busy  ? shows the keys
@@ -407,6 +458,10 @@ name         main
 kind         spawn
 location     script:1:1
 state        idle
+ 2 NOW     main 1.1 can be woken by nobody, for 999.9 ms (lost-waker, script:1:1)
+  keep a waker of it until the wake
+ 3 NOW     main 1.1 wakes itself, 66% of its wakes (self-wakes, script:1:1)
+  let an event or a timer wake it
 polls        2
 busy         20 ns
 first poll   1.0 s ago
@@ -423,10 +478,6 @@ drops        1
 handles      2
 created      1.0 s ago
 closed       -
- 2 NOW     main 1.1 can be woken by nobody, for 999.9 ms (lost-waker, script:1:1)
-  keep a waker of it until the wake
- 3 NOW     main 1.1 wakes itself, 66% of its wakes (self-wakes, script:1:1)
-  let an event or a timer wake it
 
 ";
 
@@ -439,6 +490,41 @@ fn enter_shows_all_of_the_chosen_task(rt: HostRuntime) {
     let arrow = [key(b'\x1b'), key(b'['), key(b'B')];
     let events = [Bytes(ODD), arrow[0], arrow[1], arrow[2], key(b'\n'), DUE];
     assert!(rt; draws(rt.alloc(), &events, "", ODD_DETAILS, 6));
+}
+
+const TIMED_DETAILS: &str = "sorted by busy  ? shows the keys
+TASK 1.1
+name         a
+kind         spawn
+location     script:2:1
+state        idle
+median poll  16.3 us
+p99 poll     4.1 ms
+longest poll 5.0 ms
+poll times   #_______..____  from under 16 us to over 67 ms, each twice the one before
+polls        100
+busy         600.0 ms
+first poll   999.9 ms ago
+last poll    10.0 ms ago
+last end     9.0 ms ago
+wakes        45
+self-wakes   1
+self share   2%
+last wake    11.0 ms ago
+sched        2.0 ms
+waiting      -
+clones       1
+drops        0
+handles      1
+created      1.0 s ago
+closed       -
+
+";
+
+#[test]
+fn the_histograms_of_the_chosen_task_are_shown(rt: HostRuntime) {
+    let events = [Bytes(TIMED), key(b'\n'), DUE];
+    assert!(rt; draws(rt.alloc(), &events, "", TIMED_DETAILS, 3));
 }
 
 #[test]
@@ -459,6 +545,38 @@ OPERATION STATE      POLLS      BUSY     TASK RESOURCE SOURCE
       1.1 idle           1      5 ns      1.1      1.1 Semaphore::acquire
 
 ";
+
+const WORKER: &str = "sorted by busy  ? shows the keys
+TASK 1.1
+name         worker
+kind         spawn
+location     script:1:1
+state        scheduled
+operation    Semaphore::acquire on resource 1.1, idle, first polled 10 ns ago
+polls        0
+busy         0 ns
+first poll   -
+last poll    -
+last end     -
+wakes        0
+self-wakes   0
+self share   -
+last wake    -
+sched        40 ns
+waiting      40 ns
+clones       0
+drops        0
+handles      1
+created      40 ns ago
+closed       -
+
+";
+
+#[test]
+fn the_operations_of_the_chosen_task_are_shown(rt: HostRuntime) {
+    let events = [Bytes(SEMAPHORE), key(b'\n'), DUE];
+    assert!(rt; draws(rt.alloc(), &events, "", WORKER, 3));
+}
 
 #[test]
 fn a_key_shows_resources(rt: HostRuntime) {

@@ -10,4 +10,5 @@ returns c = rw (← c.by_word.ensures, ← c.tells_recent.ensures, ← c.sorted_
     (both c.in_ok-put_text-4.ensures
     (both c.in_ok-put_filter.ensures
     (both c.in_ok-put_paused.ensures
-    c.in_ok-put_text-5.ensures)))))))
+    (both c.in_ok-put_silent.ensures
+    c.in_ok-put_text-5.ensures))))))))

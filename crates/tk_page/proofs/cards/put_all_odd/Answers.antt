@@ -3,7 +3,7 @@ use Rattle.tk_page.proofs.cards.put_all_odd.Goals as goal
 
 pub returns : goal.returns
 returns c =
-    rw (c.carded.ensures, c.count.ensures, c.as_slice-all.ensures.value) at
+    rw (c.carded.ensures, c.findings_word.ensures, c.count-many.ensures, c.as_slice-all.ensures.value) at
     (then c.in_ok-put.ensures
     (then c.in_ok-put_cards.ensures
     (then c.in_ok-put-2.ensures

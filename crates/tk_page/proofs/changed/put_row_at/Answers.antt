@@ -6,4 +6,4 @@ use Rattle.tk_page.proofs.changed.put_row_at.Goals as goal
 
 pub returns-in-Some : goal.returns-in-Some
 returns-in-Some c =
-    subst (λ o. OnOk c.put_row_if.result (Writes c.args.paper.now c.put_row_if.new.paper (option_map_or (row_if c.args.margin c.args.spans c.args.rank) o []))) c.in-Some.ensures c.put_row_if.ensures
+    subst (λ o. OnOk c.put_row_if.result (Writes c.args.paper.now c.put_row_if.new.paper (option_map_or (row_if c.args.margin c.args.spans) o []))) c.in-Some.ensures c.put_row_if.ensures

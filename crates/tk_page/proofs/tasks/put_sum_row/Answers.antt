@@ -7,4 +7,6 @@ returns c =
     (then c.in_ok-put_height.ensures
     (then c.in_ok-put_whom_legend.ensures
     (then c.in_ok-put_picture.ensures
-    (then c.in_ok-put_axis.ensures c.in_ok-put.ensures))))
+    (then c.in_ok-put_axis.ensures
+    (then c.in_ok-put.ensures
+    (then c.in_ok-put_marks.ensures c.in_ok-put-2.ensures))))))

@@ -8,4 +8,4 @@ returns c =
     c.in_ok-put_screen.ensures.is
     ∙ ap (λ xs. xs ++ screen_text c.canvas-canvas.result c.as_slice.result.now) c.new-text.ensures.items
     ∙ ap (screen_text c.canvas-canvas.result) (c.as_slice.ensures.value ∙ c.in_ok-lines.ensures)
-    ∙ ap (λ k. screen_text k (lines_of c.args.asked.now c.args.behind k c.args.screen.now.query c.args.tables.now c.args.odd.now)) c.canvas-canvas.ensures
+    ∙ ap (λ k. screen_text k (lines_of c.args.asked.now c.args.behind k c.args.screen.now.query c.args.tables.now c.args.times.now c.args.odd.now)) c.canvas-canvas.ensures
