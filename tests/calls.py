@@ -1,5 +1,5 @@
 #!/usr/bin/env python3
-"""Lists in docs/wrong-bodies.txt the wrong bodies of each crate, from their edits: tests/calls.py, or tests/calls.py --check
+"""Lists in tests/wrong-bodies.txt the wrong bodies of each crate, from their edits: tests/calls.py, or tests/calls.py --check
 
 With --check nothing is written, and the status is 1 where the list is another than the edits'. The gate asks that.
 """
@@ -9,7 +9,7 @@ import os
 import sys
 
 ROOT = os.path.dirname(os.path.dirname(os.path.abspath(__file__)))
-LIST = os.path.join(ROOT, "docs", "wrong-bodies.txt")
+LIST = os.path.join(ROOT, "tests", "wrong-bodies.txt")
 HEAD = """\
 Mistakes that are refused, by crate and function: with any of them the function is not proved. Written by tests/calls.py.
 
@@ -53,7 +53,7 @@ def main(words):
         with open(LIST, encoding="utf-8") as it:
             is_same = it.read() == text()
         if not is_same:
-            print("docs/wrong-bodies.txt lists other wrong bodies than there are: tests/calls.py writes it anew")
+            print("tests/wrong-bodies.txt lists other wrong bodies than there are: tests/calls.py writes it anew")
         return 0 if is_same else 1
     with open(LIST, "w", encoding="utf-8") as it:
         it.write(text())

@@ -1,9 +1,9 @@
 #!/usr/bin/env python3
 """Checks a crate over the libraries that `rt ci` has kept on this machine: tests/check.py CRATE [the prover's flags]
 
-`rt check` proves the libraries below a crate anew in each clone; this takes those that a run of `rt ci`, here or in another clone, has passed, so it
-takes as long as the crate alone. What it has checked is kept in out/check for the next time. Flags are as of `rt check`: --only PATH, --allow-holes,
---fix-imports. It gives no verdict: `rt ci CRATE` does.
+`rt check` proves the libraries below a crate anew in each clone; this takes those that a run of `rt ci`, here or in another
+clone, has passed, so it takes as long as the crate alone. What it has checked is kept in out/check for the next time. Flags are
+as of `rt check`: --only PATH, --allow-holes, --fix-imports. It gives no verdict: `rt ci CRATE` does.
 """
 
 import os

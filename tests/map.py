@@ -10,8 +10,9 @@ written from the top, from crates/, or from a crate or a folder that the same ro
 stand for several. "`word` in `path`" says that the word stands there, also of several words before one "in".
 
 Of all documents the file of each relative link has to be there, and the heading that it leads to. So has each path in backticks that begins with
-a folder of the repository. If a document says how many lines of Rust there are, it may be off by a tenth. A line of text that people write is at
-most 140 characters long. Tables may be wider, and code, and what a script writes.
+a folder of the repository. Code below a line that is a link and a colon has to stand in that file. If a document says how many lines of Rust
+there are, it may be off by a tenth. A line of text that people write is at most 140 characters long. Tables may be wider, and code, and what a
+script writes.
 """
 import glob
 import os
@@ -187,6 +188,22 @@ def too_wide():
                     yield f"{name}: a line of {len(line)} characters, {line[:50]}"
 
 
+# Code that a document shows, below the link to the file that it is from.
+SHOWN = re.compile(r"^\[[^\]]*\]\(([^)\s]+)\):\n\n```rust\n(.*?)^```", flags=re.S | re.M)
+
+
+def unlike():
+    """The pieces of code in documents that don't stand in the file that is linked above them, line by line."""
+    for name in files():
+        if name.endswith(".md"):
+            for link, code in SHOWN.findall(read(name)):
+                path = os.path.normpath(os.path.join(os.path.dirname(name), link))
+                lines = [line.strip() for line in code.split("\n") if line.strip()]
+                source = [line.strip() for line in read(path).split("\n") if line.strip()]
+                if not any(source[place : place + len(lines)] == lines for place in range(len(source))):
+                    yield f"{name}: {path} has no such lines: {lines[0][:60]}"
+
+
 # How many lines of Rust without proof documents say there are, in the order in which they say it, and where these are.
 COUNTED = {
     "rust/README.md": ["rust/taskscope/src", "rust/taskscope-subscriber/src"],
@@ -263,7 +280,7 @@ def main(words):
     if words:
         print(__doc__.strip(), file=sys.stderr)
         return 2
-    found = of_map() + list(of_documents()) + list(too_wide()) + list(of_counts())
+    found = of_map() + list(of_documents()) + list(too_wide()) + list(unlike()) + list(of_counts())
     print("\n".join(found + [f"documents: {len(found)} mistakes"]))
     return 1 if found else 0
 

@@ -3,15 +3,17 @@
 #
 # Usage: tests/metrics.sh. TASKSCOPE may name another program than `./taskscope`.
 #
-# Of each example's stream, of services at random, whose closed tasks leave, and of random streams, with histograms and without, the numbers are those
-# that tests/metrics/plain_metrics.py reckons, byte for byte, with an end of series and without, on the output and in a file that is kept while a stream comes, and promtool finds
-# no fault in them. A node exporter on the loopback reads
-# them from a file, a Prometheus scrapes it, and what it answers to a query is what the report says. promtool checks docs/alerts.yml, and that of a hang
-# these alerts name the culprit. docs/dashboard.json has what Grafana needs, and the Prometheus takes its queries.
-# A hang is played in real time, and an Alertmanager lets the culprit's alert through and no victim's.
+# Of each example's stream, of services at random, whose closed tasks leave, and of random streams, with histograms and without,
+# the numbers are those that tests/metrics/plain_metrics.py reckons, byte for byte, with an end of series and without, on the
+# output and in a file that is kept while a stream comes, and promtool finds no fault in them. A node exporter on the loopback
+# reads them from a file, a Prometheus scrapes it, and what it answers to a query is what the report says. promtool checks
+# docs/alerts.yml, and that of a hang these alerts name the culprit. docs/dashboard.json has what Grafana needs, and the
+# Prometheus takes its queries. A hang is played in real time, and an Alertmanager lets the culprit's alert through and no
+# victim's.
 #
-# promtool and Prometheus are Debian's prometheus, the node exporter its prometheus-node-exporter, the Alertmanager its prometheus-alertmanager. Where they are missing they are installed by apt-get;
-# where they can't be, that is said and their steps skipped, or with CI=true it is a failure.
+# promtool and Prometheus are Debian's prometheus, the node exporter its prometheus-node-exporter, the Alertmanager its
+# prometheus-alertmanager. Where they are missing they are installed by apt-get; where they can't be, that is said and their steps
+# skipped, or with CI=true it is a failure.
 #
 # Its last line is `N passed, M failed`, and its status 1 where M isn't 0.
 
@@ -65,7 +67,7 @@ has_lines() {
 
 # keep_every SECONDS: numbers of a stream that the test writes line by line to descriptor 4.
 keep_every() {
-    stream=$examples/service.script.stdout
+    stream=$root/tests/examples/service.stream
     rm -rf "$work/kept" && mkdir "$work/kept" && mkfifo "$work/kept/pipe" || return 1
     "$program" metrics --to "$work/kept/tasks.prom" --every "$1" < "$work/kept/pipe" &
     reader=$!
@@ -78,7 +80,8 @@ ends_with_lines() {
     wait "$reader" && has_lines "$stream" "$1" "$work/kept/tasks.prom"
 }
 
-# While a stream comes its numbers are kept up to it, and no more often than is asked for; a reader that looks all the time finds them whole.
+# While a stream comes its numbers are kept up to it, and no more often than is asked for; a reader that looks all the time finds
+# them whole.
 kept_while_it_comes() {
     keep_every 0 || return 1
     head -n 1 "$stream" >&4 && has_lines "$stream" 1 "$work/kept/tasks.prom" &&
@@ -102,7 +105,7 @@ kept_no_more_often() {
 
 # A file that grows is followed.
 kept_of_a_file_that_grows() {
-    stream=$examples/service.script.stdout
+    stream=$root/tests/examples/service.stream
     rm -rf "$work/kept" && mkdir "$work/kept" && head -n 1 "$stream" > "$work/kept/stream" || return 1
     "$program" metrics --to "$work/kept/tasks.prom" --every 0 --follow "$work/kept/stream" &
     reader=$!
@@ -112,9 +115,10 @@ kept_of_a_file_that_grows() {
     [ "$came" -eq 0 ]
 }
 
-# With the file that takes the place of one that is followed the stream goes on: its first line stands for all there is, and lines are numbered on.
+# With the file that takes the place of one that is followed the stream goes on: its first line stands for all there is, and lines
+# are numbered on.
 kept_of_a_file_made_anew() {
-    stream=$examples/service.script.stdout
+    stream=$root/tests/examples/service.stream
     rm -rf "$work/kept" && mkdir "$work/kept" && head -n 3 "$stream" > "$work/kept/stream" || return 1
     { head -n 3 "$stream" && head -n 2 "$stream" | sed 's/"seq":1,"snapshot":false/"seq":4,"snapshot":true/; s/"seq":2,/"seq":5,/'; } > "$work/joined"
     "$program" metrics --to "$work/kept/tasks.prom" --every 0 --follow "$work/kept/stream" &
@@ -128,7 +132,7 @@ kept_of_a_file_made_anew() {
 
 # At a fault of the stream the file has the lines before it, and where no file can be written the old one stays, which is said once.
 kept_at_faults() {
-    stream=$examples/service.script.stdout
+    stream=$root/tests/examples/service.stream
     rm -rf "$work/kept" && mkdir "$work/kept" && { head -n 3 "$stream" && echo '{}'; } > "$work/kept/stream" || return 1
     "$program" metrics --to "$work/kept/tasks.prom" "$work/kept/stream" 2> "$work/faults"
     [ $? -eq 1 ] && has_lines "$stream" 3 "$work/kept/tasks.prom" && cat "$work/faults" && [ "$(cat "$work/faults")" = 'fault: stream after 3 lines: BadShape' ] || return 1
@@ -136,7 +140,8 @@ kept_at_faults() {
     [ $? -eq 1 ] && cat "$work/faults" && [ "$(wc -l < "$work/faults")" -eq 1 ] && grep -q "^fault: Write $work/no/such/folder: [^ ]" "$work/faults"
 }
 
-# Where a place can't be written, as with a folder of that name, and then can, the numbers are put, and what couldn't be written is said once.
+# Where a place can't be written, as with a folder of that name, and then can, the numbers are put, and what couldn't be written
+# is said once.
 kept_once_there_is_room() {
     keep_every 0 2> "$work/faults" || return 1
     mkdir "$work/kept/tasks.prom" && head -n 2 "$stream" >&4 && sleep 1 && sed -n 3p "$stream" >&4 && sleep 1 && rmdir "$work/kept/tasks.prom" &&
@@ -148,7 +153,7 @@ kept_once_there_is_room() {
 
 # What has the name of the new file, as a link or a pipe of somebody else, is never opened.
 kept_past_a_link() {
-    stream=$examples/service.script.stdout
+    stream=$root/tests/examples/service.stream
     rm -rf "$work/kept" && mkdir "$work/kept" && echo mine > "$work/kept/other" && ln -s other "$work/kept/tasks.prom.new" &&
         timeout 60 "$program" metrics --to "$work/kept/tasks.prom" "$stream" && [ "$(cat "$work/kept/other")" = mine ] &&
         has_lines "$stream" 60 "$work/kept/tasks.prom" || return 1
@@ -247,7 +252,7 @@ waiting_in_report() {
 }
 
 try_prometheus() {
-    stream=$examples/service.script.stdout
+    stream=$root/tests/examples/service.stream
     start_servers && "$program" metrics --to "$work/collected/tasks.prom" "$stream" || return 1
     answers_with 'sum(taskscope_task_polls_total)' "$(sum_in_report polls)" &&
         answers_with 'sum(taskscope_task_wakes_total)' "$(sum_in_report wakes)" &&
@@ -259,8 +264,8 @@ try_prometheus() {
         answers_with 'count(taskscope_task_open_poll_seconds > 1)' 1
 }
 
-for script in "$examples"/*.script; do
-    step "$(basename "$script" .script), its numbers" are_numbers_of "$script.stdout"
+for stream in "$root"/tests/examples/*.stream; do
+    step "$(basename "$stream" .stream), its numbers" are_numbers_of "$stream"
 done
 for seed in 1 2 3 4; do
     step "a service at random, by seed $seed, its numbers" are_numbers_of_service "$seed"
@@ -268,8 +273,8 @@ done
 step "random streams, their numbers" are_numbers_of_random 1 20 as_it_is
 step "random streams with histograms and resources, their numbers" are_numbers_of_random 2 20 "$root/tests/metrics/with_more.py"
 step "no count falls while tasks leave" never_fall
-for script in "$examples"/*.script; do
-    step "$(basename "$script" .script), its numbers in a file" are_kept "$script.stdout"
+for stream in "$root"/tests/examples/*.stream; do
+    step "$(basename "$stream" .stream), its numbers in a file" are_kept "$stream"
 done
 step "numbers are kept while a stream comes" kept_while_it_comes
 step "and no more often than is asked for" kept_no_more_often
@@ -280,9 +285,9 @@ step "once there is room again they are put" kept_once_there_is_room
 step "a link or a pipe in the place of the new file is never opened" kept_past_a_link
 
 if package promtool prometheus && package prometheus-node-exporter prometheus-node-exporter; then
-    for script in "$examples"/*.script; do
-        "$program" metrics "$script.stdout" > "$work/numbers"
-        step "$(basename "$script" .script), as promtool reads its numbers" promtool check metrics < "$work/numbers"
+    for stream in "$root"/tests/examples/*.stream; do
+        "$program" metrics "$stream" > "$work/numbers"
+        step "$(basename "$stream" .stream), as promtool reads its numbers" promtool check metrics < "$work/numbers"
     done
     step "the alerts, as promtool reads them" promtool check rules "$root/docs/alerts.yml"
     step "of a hang the alerts name the culprit" promtool test rules "$root/tests/metrics/alerts_test.yml"

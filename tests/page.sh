@@ -2,17 +2,18 @@
 # Looks at the pages that `taskscope page` writes, as a strict parser and a browser do.
 #
 # Usage: tests/page.sh            tries the pages.
-#        tests/page.sh --picture  makes docs/page.png anew, of examples/service.script.html, and tries nothing. It wants `chromium` and `pngquant`.
+#        tests/page.sh --picture  makes docs/page.png anew, of examples/service.html, and tries nothing. It wants `chromium` and `pngquant`.
 #
 # The frame is what frame/make.py writes, and the scripts of the service and of the long tail are what examples/service.py and
 # examples/long-tail.py do. Of the page of each example, which
-# tests/examples.sh compares byte for byte with what the program writes, tests/page/check_page.py reads the text as HTML and compares
-# its numbers with the example's stream; so it does with pages of services at random, whose closed tasks leave, and with that of a crowd, which
-# has more places than a page shows. Pages of two streams are read by tests/page/check_changes.py. In a browser tests/page/try_script.py
-# sorts and filters the service's page and the crowd's.
+# tests/examples.sh compares byte for byte with what the program writes, tests/page/check_page.py reads the text as HTML and
+# compares its numbers with the example's stream; so it does with pages of services at random, whose closed tasks leave, and with
+# that of a crowd, which has more places than a page shows. Pages of two streams are read by tests/page/check_changes.py. In a
+# browser tests/page/try_script.py sorts and filters the service's page and the crowd's.
 #
-# The parser is Debian's python3-html5lib, the browser its chromium. Where one is missing it is installed by apt-get; where it can't be, that is said
-# and its steps are skipped, or with CI=true it is a failure. TASKSCOPE may name another program than `./taskscope`.
+# The parser is Debian's python3-html5lib, the browser its chromium. Where one is missing it is installed by apt-get; where it
+# can't be, that is said and its steps are skipped, or with CI=true it is a failure. TASKSCOPE may name another program than
+# `./taskscope`.
 #
 # Its last line is `N passed, M failed`, and its status 1 where M isn't 0.
 
@@ -34,7 +35,7 @@ is_small() {
 }
 
 if [ "$1" = --picture ]; then
-    shoot "$examples/service.script.html" "$work/page.png" 1440,960 && pngquant --force --output "$picture" 256 "$work/page.png" && is_small "$picture"
+    shoot "$examples/service.html" "$work/page.png" 1440,960 && pngquant --force --output "$picture" 256 "$work/page.png" && is_small "$picture"
     exit
 fi
 
@@ -62,9 +63,11 @@ make_crowd() {
 
 # Debian's python has Debian's packages.
 if package /usr/lib/python3/dist-packages/html5lib python3-html5lib; then
-    for script in "$examples"/*.script; do
-        step "$(basename "$script" .script), as a parser reads its page" \
-            /usr/bin/python3 "$root/tests/page/check_page.py" "$script.html" "$script.stdout"
+    for stream in "$root"/tests/examples/*.stream; do
+        name=$(basename "$stream" .stream)
+        page=$root/tests/examples/$name.html
+        [ "$name" = service ] && page=$examples/service.html
+        step "$name, as a parser reads its page" /usr/bin/python3 "$root/tests/page/check_page.py" "$page" "$stream"
     done
     for seed in 1 2 3 4 5 6 7 8; do
         step "a service at random, by seed $seed, as a parser reads its page" is_page_of_service "$seed"
@@ -75,10 +78,10 @@ if package /usr/lib/python3/dist-packages/html5lib python3-html5lib; then
 fi
 
 if package chromium chromium; then
-    step "the service's page, sorted and filtered in a browser" "$root/tests/page/try_script.py" "$examples/service.script.html"
+    step "the service's page, sorted and filtered in a browser" "$root/tests/page/try_script.py" "$examples/service.html"
     make_crowd "$work/crowd" "$work/crowd.html"
     step "the crowd's page, sorted and filtered in a browser" "$root/tests/page/try_script.py" "$work/crowd.html"
-    step "the service's page, drawn by a browser" shoot "$examples/service.script.html" "$work/page.png" 1280,900
+    step "the service's page, drawn by a browser" shoot "$examples/service.html" "$work/page.png" 1280,900
 fi
 
 finish

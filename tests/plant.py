@@ -1,5 +1,5 @@
 #!/usr/bin/env python3
-"""Lists in docs/planted.txt what `rt plant` lets through of a crate: tests/plant.py CRATE [its flags], or tests/plant.py --old
+"""Lists in tests/planted.txt what `rt plant` lets through of a crate: tests/plant.py CRATE [its flags], or tests/plant.py --old
 
 A body that it lets through is too little, or wrong, and still proved: a gap of a contract, unless the body is right or the function is no matter of a
 contract. The list names the commit whose sources were tried, so the crate must have no change that isn't committed. Flags are as of `rt plant`:
@@ -15,7 +15,7 @@ import subprocess
 import sys
 
 ROOT = os.path.dirname(os.path.dirname(os.path.abspath(__file__)))
-LIST = os.path.join(ROOT, "docs", "planted.txt")
+LIST = os.path.join(ROOT, "tests", "planted.txt")
 HEAD = """\
 Bodies that `rt plant` put in the place of others, and that were still proved. Written by tests/plant.py.
 

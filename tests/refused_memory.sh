@@ -199,11 +199,11 @@ printf 'task 100 spawn main\npublish 200\npublish 300\n' > "$work/input"
 refuse_program run 0
 cp "$root/examples/retention.script" "$work/input" || exit 2
 refuse_program run 0
-cp "$root/examples/retention.script.stdout" "$work/input" || exit 2
+cp "$root/tests/examples/retention.stream" "$work/input" || exit 2
 refuse_program view 0
-cp "$root/examples/semaphore.script.stdout" "$work/input" || exit 2
+cp "$root/tests/examples/semaphore.stream" "$work/input" || exit 2
 refuse_program view 0
-cp "$root/examples/lost-waker.script.stdout" "$work/input" || exit 2
+cp "$root/tests/examples/lost-waker.stream" "$work/input" || exit 2
 refuse_program lint 3
 : > "$work/input"
 refuse_program demo 0

@@ -12,18 +12,20 @@
 # many poll operations, and `lint` the two warnings that are due and no other. `view` must take the streams of the tests with threads too.
 # `metrics` of a console's stream must have the numbers that the console gives itself.
 #
-# Of rust/taskscope-subscriber it runs the tests, also under the sanitizers, then tokio's echo server: `view` must tell of as many polls and tasks as the runtime's own
-# metrics; a program with three faults, of which `lint` must warn and of no other; and one that logs and hands its requests on, of which
-# `lint` must warn of nothing. It pastes the program of the README. A build without tokio's flag, one without tokio's feature and one without
-# the archive must each say so once. Then readers attach to a service, at a port and at a socket, and follow it when it starts anew; and the
-# stream of a disk that was full for a while must be viewed. A Prometheus (Debian's prometheus) scrapes a service, and answers with the numbers of
-# the service's stream; where it is missing and can't be installed, that is said and the step skipped, or with CI=true it is a failure.
+# Of rust/taskscope-subscriber it runs the tests, also under the sanitizers, then tokio's echo server: `view` must tell of as many
+# polls and tasks as the runtime's own metrics; a program with three faults, of which `lint` must warn and of no other; one whose
+# only thread a task blocks, which the page must name; and one that logs and hands its requests on, of which `lint` must warn of
+# nothing. It pastes the program of the README. A build without tokio's flag, one without tokio's feature and one without the
+# archive must each say so once. Then readers attach to a service, at a port and at a socket, and follow it when it starts anew;
+# and the stream of a disk that was full for a while must be viewed. A Prometheus (Debian's prometheus) scrapes a service, and
+# answers with the numbers of the service's stream; where it is missing and can't be installed, that is said and the step skipped,
+# or with CI=true it is a failure.
 #
 # It works on a copy of rust/ and without network, over the crates that Debian's packages have: cargo, rustc, curl,
-# librust-tokio-dev, librust-tracing-dev, librust-tracing-subscriber-dev. Where one is missing it tries to install it by apt-get. Where it can't, it says so
-# and skips all; with CI=true that is a failure.
-# TASKSCOPE_ARCHIVE may name an archive that tests/archive.py has just built, as the gate does.
-# CARGO_TARGET_DIR may name a folder that keeps what cargo builds; otherwise it is a temporary one.
+# librust-tokio-dev, librust-tracing-dev, librust-tracing-subscriber-dev. Where one is missing it tries to install it by apt-get.
+# Where it can't, it says so and skips all; with CI=true that is a failure. TASKSCOPE_ARCHIVE may name an archive that
+# tests/archive.py has just built, as the gate does. CARGO_TARGET_DIR may name a folder that keeps what cargo builds; otherwise it
+# is a temporary one.
 #
 # Its last line is `N passed, M failed`, and its status 1 where M isn't 0.
 
@@ -422,9 +424,24 @@ faults_are_warned_of() {
     printf '%s\n' 'lost-waker of lost' 'never-yielded of busy' 'self-wakes of eager' | diff - "$work/warned"
 }
 
-# Of each task the report has as many polls as the program counted, and its times are at least those that it measured within them: at most a
-# millisecond more, but where the system took the processor away between the two readings of the clock. Of its waits, which the program measures
-# around those of the report, the report has as many, and their times are at most those, and at most a millisecond less.
+# While a task blocks its thread, the page's first line says who it is, for how long, how many wait and what to do; and the
+# findings name nobody else.
+blocked_is_named() {
+    TASKSCOPE_STREAM=$work/blocked.stream "$unstable/debug/examples/blocked" || return 1
+    "$program" lint --findings < "$work/blocked.stream" > "$work/findings"
+    [ $? -eq 3 ] && grep -q '^finding 1 holds-up now .* name report-builder$' "$work/findings" && ! grep -q '^finding [2-9]' "$work/findings" &&
+        grep -q '^  whom [0-9]* kind spawn at .* name conn-#$' "$work/findings" && "$program" page < "$work/blocked.stream" > "$work/blocked.html" &&
+        tr -d '\n' < "$work/blocked.html" | sed 's/<[^>]*>//g' > "$work/read" &&
+        grep -q 'report-builder has held its thread for [2-5]\.[0-9][^;]*s; 20 tasks wait, the longest for [2-5]\.[0-9][^.]*s\. It was made at examples/blocked\.rs:[0-9]*:5' "$work/read" || {
+        cat "$work/findings"
+        return 1
+    }
+}
+
+# Of each task the report has as many polls as the program counted, and its times are at least those that it measured within them:
+# at most a millisecond more, but where the system took the processor away between the two readings of the clock. Of its waits,
+# which the program measures around those of the report, the report has as many, and their times are at most those, and at most a
+# millisecond less.
 times_agree() {
     TASKSCOPE_ITEMS=tasks TASKSCOPE_STREAM=$work/starving.stream "$unstable/debug/examples/starving" > "$work/measured" || return 1
     "$program" view --times < "$work/starving.stream" > "$work/report" || return 1
@@ -459,9 +476,9 @@ times_agree() {
     grep "^warn $id long-poll " "$work/warnings"
 }
 
-# The findings name who holds up whom first. They accuse another only if the program itself measured a long poll of it, since the system may
-# take the processor away from a client, too. In a program that is fine there are none: polls are long from a second on, since the system may
-# take the processor away for as long as a tenth of it.
+# The findings name who holds up whom first. They accuse another only if the program itself measured a long poll of it, since the
+# system may take the processor away from a client, too. In a program that is fine there are none: polls are long from a second
+# on, since the system may take the processor away for as long as a tenth of it.
 findings_name_who() {
     view "$work/starving.stream" "$work/report" || return 1
     "$program" lint --findings --long-poll 20 < "$work/starving.stream" > "$work/findings"
@@ -544,14 +561,14 @@ unflagged_is_said() {
         CARGO_TARGET_DIR=$CARGO_TARGET_DIR/unflagged
         export CARGO_TARGET_DIR
         RUSTFLAGS='' TASKSCOPE_LIB=$work/new over_debian_in "$work/rust/taskscope-subscriber" build --example requests &&
-            says_once "$CARGO_TARGET_DIR/debug/examples/requests" 'nothing is told of tokio, as the program is built without `--cfg tokio_unstable`'
+            says_once "$CARGO_TARGET_DIR/debug/examples/requests" 'nothing is recorded of tokio, as the program is built without `--cfg tokio_unstable`'
     )
 }
 
 untraced_is_said() {
     make_package untraced '"macros", "rt-multi-thread", "time"' "$root/rust/taskscope-subscriber/examples/requests.rs" &&
         CARGO_TARGET_DIR=$unstable RUSTFLAGS='--cfg tokio_unstable' TASKSCOPE_LIB=$work/new over_debian_in "$work/untraced" build &&
-        says_once "$unstable/debug/untraced" 'tokio has told of no task. If the program has one, tokio needs its feature `tracing`'
+        says_once "$unstable/debug/untraced" 'tokio has reported no task. If the program has one, tokio needs its feature `tracing`'
 }
 
 # The program logs all the same, and no file is made.
@@ -566,6 +583,7 @@ inactive_is_said() {
 if step 'the tests of the subscriber pass' try_subscriber; then
     step 'the echo server has the polls that its metrics have' echo_agrees
     step 'the warnings of the three faults are due' faults_are_warned_of
+    step 'a page names who blocks its thread, and how many wait for it' blocked_is_named
     step 'the times of a task that starves others are told' times_agree
     step 'a program that logs and hands its requests on has no warning' requests_are_fine
     step 'findings name who holds up whom' findings_name_who
@@ -654,8 +672,8 @@ watch_goes_on() {
     grep -q '  tasks 4: ' "$work/watched" && grep -q '  tasks 8: ' "$work/watched" || { head -n 3 "$work/watched"; return 1; }
 }
 
-# A Prometheus scrapes a service each second. How many tasks there are doesn't change, and how often they were polled soon lies between what two
-# reports say.
+# A Prometheus scrapes a service each second. How many tasks there are doesn't change, and how often they were polled soon lies
+# between what two reports say.
 scraped_by_prometheus() {
     server=$((port + 1))
     mkdir "$work/data" && cat > "$work/prometheus.yml" << END || return 1

@@ -1,4 +1,5 @@
-# What the scripts of steps share, which read this file once $root is set: the program that they try, a folder $work, the counts, `step`, and `package`.
+# What the scripts of steps share, which read this file once $root is set: the program that they try, a folder $work, the counts,
+# `step`, and `package`.
 
 # Without TASKSCOPE it is what `./taskscope` starts.
 program=${TASKSCOPE:-$root/taskscope}
@@ -27,8 +28,8 @@ as_root() {
     if [ "$(id -u)" -eq 0 ]; then "$@"; else sudo -n "$@"; fi
 }
 
-# Whether a command or a file is there, or comes by these packages of Debian. Where it doesn't, what needs it is skipped aloud; with CI=true that
-# is a failure.
+# Whether a command or a file is there, or comes by these packages of Debian. Where it doesn't, what needs it is skipped aloud;
+# with CI=true that is a failure.
 package() {
     there=$1
     shift

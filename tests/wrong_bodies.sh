@@ -1,5 +1,6 @@
 #!/bin/sh
-# Tries the wrong bodies that are no must-fail edits, crates/NAME/wrong-bodies/*.edit and gate/*.edit: the prover, or a test, must refuse each.
+# Tries the wrong bodies that are no must-fail edits, crates/NAME/wrong-bodies/*.edit and gate/*.edit: the prover, or a test, must
+# refuse each.
 #
 # Usage: tests/wrong_bodies.sh [CRATE [NAME ..]], of all crates, of one, or some of its wrong bodies alone.
 #        tests/wrong_bodies.sh --built [CRATE [NAME ..]]: the same, over the libraries that `rt ci` has left here, without `rt check`.

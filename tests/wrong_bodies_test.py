@@ -1,5 +1,6 @@
 #!/usr/bin/env python3
-"""Tests of tests/wrong_bodies_verdict.py, on what the prover said of edits of tk_ids, tk_stream and tk_aggregator (tests/wrong_bodies_said).
+"""Tests of tests/wrong_bodies_verdict.py, on what the prover said of edits of tk_ids, tk_stream and tk_aggregator
+(tests/wrong_bodies_said).
 
 Usage: tests/wrong_bodies_test.py, in a second. The last line of each file is the status of the check.
 """

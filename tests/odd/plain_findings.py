@@ -1,5 +1,5 @@
 #!/usr/bin/env python3
-"""What is odd about a stream's tasks, computed plainly: tests/odd/plain_findings.py [--long NS] [--wait NS] [--percent N] < STREAM
+"""What is odd about a stream's tasks, computed plainly: tests/odd/plain_findings.py [--long NS] [--wait NS] [--percent N] [--since NS] < STREAM
 
 This is a second reading of crates/tk_odd/specs and crates/tk_found/specs/Lines.antt, in another language and with no regard to cost: tests compare
 with it what the program's `lint --findings` writes.
@@ -406,9 +406,15 @@ def written(number, f):
     return f"finding {number} {f.kind} {'now' if f.is_now else 'earlier'} {figures(f)}{task}"
 
 
-def findings_of(lines, limits):
+def span_of(seen, since):
+    """The tables from the last ones at or before a moment on; all where none are so early, or no moment is given."""
+    early = [at for at, tables in enumerate(seen) if since is not None and tables.now <= since]
+    return seen[early[-1] :] if early else seen
+
+
+def findings_of(lines, limits, since=None):
     diagnosis, tables = Diagnosis(limits), Tables(0, {})
-    for tables in tables_of(lines):
+    for tables in span_of(list(tables_of(lines)), since):
         diagnosis.after_line(tables)
     lines = []
     for number, f in enumerate(diagnosis.findings(tables), 1):
@@ -424,7 +430,9 @@ def main():
     words.add_argument("--long", type=int, default=10**8)
     words.add_argument("--wait", type=int, default=10**9)
     words.add_argument("--percent", type=int, default=50)
-    for line in findings_of(sys.stdin, words.parse_args()):
+    words.add_argument("--since", type=int)
+    asked = words.parse_args()
+    for line in findings_of(sys.stdin, asked, asked.since):
         print(line)
 
 

@@ -1,5 +1,6 @@
 #!/usr/bin/env python3
-"""The colours of the page by the contrast that WCAG asks for, in the light scheme, the dark one and print: of text at least 4.5, of marks at least 3.
+"""The colours of the page by the contrast that WCAG asks for, in the light scheme, the dark one and print: of text at least 4.5,
+of marks at least 3.
 
 Usage: check_contrast.py CSS
 """

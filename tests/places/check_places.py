@@ -4,7 +4,7 @@
 Half of the streams are of services, as tests/odd/random_streams.py makes them. The others have what these don't: names of digits and of spaces, names
 that are locations, ids that are used again or with another place, snapshots that leave tasks out, histograms of some tasks, and sums that are full. One has
 more places than stand by themselves. Each is damaged, too. Of each stream `view --by place`, `lint --by place` and `view --place N` of some places must
-write what is reckoned, with `--times` and without, and the status of `lint` is 3 where plain `lint` has it.
+write what is reckoned, with `--times` and without, and the status of `lint` is 3 where plain `lint` has it. So must `view --by place --since` some moments.
 """
 
 import json
@@ -12,8 +12,9 @@ import os
 import random
 import subprocess
 import sys
+import tempfile
 
-from plain_places import id_text, one_of, texts_of
+from plain_places import id_text, one_of, span_of, texts_of
 
 sys.path.insert(0, os.path.join(os.path.dirname(os.path.abspath(__file__)), "..", "odd"))
 
@@ -168,6 +169,26 @@ def mistake_in_one(program, lines, options, text, report):
     return None
 
 
+def front(lines, moment):
+    """The lines before the first that is later."""
+    return lines[: next((at for at, line in enumerate(lines) if json.loads(line)["now"] > moment), len(lines))]
+
+
+def mistake_in_span(program, rng, lines, options):
+    """What places came to since two moments: that of a line or one beside it, and one before all or after."""
+    moments = [json.loads(line)["now"] for line in lines]
+    near = {max(0, moment + rng.choice((-1, 0, 1))) for moment in rng.sample(moments, min(1, len(moments)))}
+    with tempfile.NamedTemporaryFile("w", suffix=".stream", encoding="ascii") as file:
+        file.write("".join(line + "\n" for line in lines))
+        file.flush()
+        for moment in sorted(near | {rng.choice((0, max(moments, default=0) + 1))}):
+            words = ["view", "--by", "place", *options.shown(), "--since", str(moment), file.name]
+            wanted, answer = span_of(front(lines, moment), lines, options), written(program, words, "")
+            if answer != (0, wanted, ""):
+                return f"{' '.join(words)}: {answer}\nwanted:\n{wanted}"
+    return None
+
+
 def mistake_in(program, lines, options):
     text = "".join(line + "\n" for line in lines)
     report, warned = texts_of(lines, options)
@@ -215,7 +236,8 @@ def main():
         rng = random.Random(seed * 1_000_003 + number)
         make = crowded_stream if number == 0 else stream_of if number % 2 else strange_stream
         lines, options = make(rng), Options(rng)
-        mistake = mistake_in(program, lines, options) or mistake_in_damaged(program, damaged(rng, lines), options)
+        mistake = mistake_in(program, lines, options) or mistake_in_span(program, rng, lines, options)
+        mistake = mistake or mistake_in_damaged(program, damaged(rng, lines), options)
         if mistake:
             sys.exit(f"stream {number} of seed {seed}, {mistake}")
         places += texts_of(lines, options)[0].count("\nplace ")

@@ -1,8 +1,8 @@
 #!/usr/bin/env python3
-"""A stream by place, computed plainly: tests/places/plain_places.py [--lint] [--times] [--percent N] [--limit NS] [--long-wait MS] < STREAM
+"""A stream by place, computed plainly: tests/places/plain_places.py [--lint] [--times] [--percent N] [--limit NS] [--long-wait MS] [--before FILE] < STREAM
 
 This is a second reading of crates/tk_sites/specs, in another language and with no regard to cost: tests compare with it what the program's
-`view --by place` and `lint --by place` write.
+`view --by place` and `lint --by place` write. With `--before` it is the span since the end of that file, which is a front of the stream.
 """
 
 import argparse
@@ -169,6 +169,32 @@ def texts_of(lines, lints):
     return ["".join(line + "\n" for line in some) for some in (report + warned, warned)]
 
 
+def histogram_since(old, now, word):
+    """The line of a histogram in a span: of its counts less what they were, and its longest, or a bound of that where it didn't grow."""
+    span = Histogram()
+    span.counts = [max(0, count - was) for count, was in zip(now.counts, old.counts)]
+    last = max((bucket for bucket in range(14) if span.counts[bucket]), default=None)
+    bound = 0 if last is None else now.longest if last == 13 else min(BOUNDS[last], now.longest)
+    is_known = old.longest < now.longest or bound == 0
+    span.is_told, span.longest = now.is_told, now.longest if old.longest < now.longest else bound
+    return [line if is_known else line.replace(" longest ", " longest-at-most ") for line in span.lines(word)]
+
+
+def span_of(before, lines, lints):
+    """What is written of the span from the last of the lines before, which are a front of all, to the last of all."""
+    (then, old), (places, tables) = places_of(before, lints), places_of(lines, lints)
+    earlier = dict(enumerate(then.values(), 1))
+    report, warned = (text.splitlines() for text in texts_of(lines, lints))
+    shown = [report[0], f"since {old.now} span {max(0, tables.now - old.now)}"]
+    for number, (text, place) in enumerate(places.items(), 1):
+        was = earlier.get(number, Place())
+        sums = {word: count if word in STATES else max(0, count - was.sums[word]) for word, count in place.sums.items()}
+        shown.append(f"place {number} " + " ".join(f"{word} {count}" for word, count in sums.items()) + f" kind {text}")
+        if lints.times:
+            shown += histogram_since(was.polls, place.polls, "polls") + histogram_since(was.waits, place.waits, "waits")
+    return "".join(line + "\n" for line in shown + warned)
+
+
 def one_of(lines, lints, number):
     """What `view --place NUMBER` writes before and after the lines of its tasks, and which tasks these are."""
     places, tables = places_of(lines, lints)
@@ -187,8 +213,12 @@ def main():
     words.add_argument("--percent", type=int, default=50)
     words.add_argument("--limit", type=int, default=10**9)
     words.add_argument("--long-wait", type=int, dest="wait_ms")
+    words.add_argument("--before")
     words = words.parse_args()
-    sys.stdout.write(texts_of(sys.stdin, words)[words.lint])
+    if words.before is None:
+        return sys.stdout.write(texts_of(sys.stdin, words)[words.lint])
+    with open(words.before, encoding="utf-8") as front:
+        sys.stdout.write(span_of(front.readlines(), sys.stdin.readlines(), words))
 
 
 if __name__ == "__main__":

@@ -20,7 +20,16 @@ for folder in ("odd", "places"):
 from check_places import strange_stream
 from random_streams import stream_of
 
-COMMANDS = (["view"], ["view", "--times"], ["view", "--by", "place", "--times"], ["lint"], ["lint", "--findings"], ["page", "--title", "a"], ["metrics"])
+COMMANDS = (
+    ["view"],
+    ["view", "--times"],
+    ["view", "--by", "place", "--times"],
+    ["lint"],
+    ["lint", "--findings"],
+    ["lint", "--findings", "--since", "200000000"],
+    ["page", "--title", "a"],
+    ["metrics"],
+)
 NO_LINES = ("", "{}", "what is this?", '{"now":1}')
 
 

@@ -142,13 +142,13 @@ class Odd:
 
 def odd_after_each(stream, count=None):
     """What is odd after each line of a stream, or of so many of its lines."""
-    diagnosis, first, counts, noted, again = Diagnosis(Limits), None, [], None, False
+    diagnosis, first, counts, noted, again = Diagnosis(Limits), None, [], None, None
     with open(stream, encoding="ascii") as file:
         for tables in tables_of(file.readlines()[:count]):
             diagnosis.after_line(tables)
             first = tables.now if first is None else first
             counts.append(count_waiting(tables))
-            again = again or (noted is not None and tables.now < noted)
+            again = tables.now if noted is not None and tables.now < noted else again
             noted = tables.now if noted is None or tables.now < noted or tables.now - noted >= 10**8 else noted
             yield Odd(diagnosis.findings(tables), tables, max(tables.now - first, 0), counts[-40:], again)
 
@@ -165,7 +165,8 @@ def head(tables, odd):
     """The first line of a screen."""
     states = [state(task["row"]) for task in tables.tasks.values()]
     counts = ", ".join(f"{states.count(name)} {name}" for name in ("polling", "scheduled", "idle", "closed"))
-    line = f"now {duration(tables.now)}{', started again' if odd.again else ''}  tasks {len(states)}: {counts}  findings {len(odd.findings)}"
+    again = "" if odd.again is None else f", started again {duration(tables.now - odd.again)} ago"
+    line = f"now {duration(tables.now)}{again}  tasks {len(states)}: {counts}  findings {len(odd.findings)}"
     lost = tables.dropped
     if any(lost):
         line += f"  lost events of {lost[0]} tasks, {lost[1]} resources, {lost[2]} operations"

@@ -4,7 +4,9 @@ use Rattle.std.specs.Option.{option_map}
 use Rattle.std.specs.Borrow.{Bor}
 use Rattle.std.specs.Io.KnownBytes.{Appends}
 use Rattle.std.proofs.lemmas.List.{append-nil}
+use Rattle.tk_client.specs.Warnings.{LintsView}
 use Rattle.tk_fault.specs.declared.fault.AppFault.TheVariants as faults
+use Rattle.tk_sites.specs.declared.sites_view.SitesView.{SitesView}
 use Rattle.tk_screen.specs.declared.canvas.Canvas.{Canvas}
 use Rattle.tk_metrics.specs.Places.{Texts}
 use Rattle.tk_metrics.proofs.KeepLemmas.{none_put}
@@ -12,7 +14,7 @@ use Rattle.tk_until.specs.Front.{front}
 use Rattle.tk_watch.proofs.KeyLemmas.{none_came}
 use Rattle.tk_watch.proofs.WatchLemmas.{none_drawn}
 use Rattle.taskscope.proofs.WordLemmas.{some_is}
-use Rattle.taskscope.specs.Program.{Does, DoesUntil, MeasuresTo, Titles, WatchesAtKeys, WatchesBy, filter_text, screen_by}
+use Rattle.taskscope.specs.Program.{AddsUpSince, Beside, Does, DoesUntil, MeasuresTo, WatchesAtKeys, WatchesBy, filter_text, screen_by}
 use Rattle.taskscope.specs.Requests.{at_keys}
 use Rattle.taskscope.specs.declared.command_line.MetricsOptions.{MetricsOptions}
 use Rattle.taskscope.specs.declared.command_line.Request.{Request}
@@ -68,46 +70,52 @@ none_watched false options text terminal given known status told = record {
   watches = none_drawn (screen_by options (some_text text) terminal) given known;
 }
 
+none_added : {F : Type 0} (remaining : F → Option (List ℕ)) (is_before : F → Type 0) (since : Option ℕ) (view : SitesView) (lints : LintsView) (wait_ms : Option ℕ) (times : Bool) (given known : Option (List ℕ)) (status : ℕ) → status ≡ 1
+    → AddsUpSince remaining is_before since view lints wait_ms times given given known known status
+none_added remaining is_before None view lints wait_ms times given known status told = record {
+  outcome = Err faults.Memory;
+  told = told;
+  views = tt;
+  unwritten = λ other. refl;
+}
+none_added remaining is_before (Some since) view lints wait_ms times given known status told = inr (told, (refl, refl))
+
 -- without memory nothing is read or written, whatever is asked for
-pub nothing_done : {F : Type 0} (remaining : F → Option (List ℕ)) (is_before : F → Type 0) (terminal : Canvas) (filter to : Option (List ℕ)) (titles : Titles) (request : Request) (given known : Option (List ℕ)) (texts : Option Texts) (status : ℕ) → status ≡ 1
-    → Does remaining is_before terminal filter to titles request given given known known texts texts status
-nothing_done remaining is_before terminal filter to titles Run given known texts status told = record {
+pub nothing_done : {F : Type 0} (remaining : F → Option (List ℕ)) (is_before : F → Type 0) (terminal : Canvas) (filter to : Option (List ℕ)) (beside : Beside) (request : Request) (given known : Option (List ℕ)) (texts : Option Texts) (status : ℕ) → status ≡ 1
+    → Does remaining is_before terminal filter to beside request given given known known texts texts status
+nothing_done remaining is_before terminal filter to beside Run given known texts status told = record {
   outcome = Err faults.Memory;
   told = told;
   written = [];
   runs = refl;
   appends = nothing_more known;
 }
-nothing_done remaining is_before terminal filter to titles (Show shown lints times) given known texts status told = record {
+nothing_done remaining is_before terminal filter to beside (Show shown lints times) given known texts status told = record {
   outcome = Err faults.Memory;
   told = told;
   views = tt;
   plain = λ none. tt;
   unwritten = λ other. refl;
 }
-nothing_done remaining is_before terminal filter to titles (Find view limits times) given known texts status told = record {
+nothing_done remaining is_before terminal filter to beside (Find view limits times) given known texts status told = record {
   outcome = Err faults.Memory;
   told = told;
   views = tt;
   unwritten = λ other. refl;
 }
-nothing_done remaining is_before terminal filter to titles (Sites view lints wait_ms times) given known texts status told = record {
-  outcome = Err faults.Memory;
-  told = told;
-  views = tt;
-  unwritten = λ other. refl;
-}
-nothing_done remaining is_before terminal filter to titles (Page limits) given known texts status told = record {
+nothing_done remaining is_before terminal filter to beside (Sites view lints wait_ms times) given known texts status told =
+    none_added remaining is_before beside.1 view lints wait_ms times given known status told
+nothing_done remaining is_before terminal filter to beside (Page limits) given known texts status told = record {
   outcome = Err faults.Memory;
   told = told;
   pages = tt;
   unwritten = λ other. refl;
 }
-nothing_done remaining is_before terminal filter to titles (Watch options) given known texts status told = none_watched options.keys options (filter_text filter) terminal given known status told
-nothing_done remaining is_before terminal filter to titles (Metrics options) given known texts status told = none_measured to options given known texts status told
-nothing_done remaining is_before terminal filter to titles (Compare options) given known texts status told = inr (told, (refl, refl))
-nothing_done remaining is_before terminal filter to titles (PageChanges options) given known texts status told = inr (told, (refl, refl))
-nothing_done remaining is_before terminal filter to titles Demo given known texts status told = record {
+nothing_done remaining is_before terminal filter to beside (Watch options) given known texts status told = none_watched options.keys options (filter_text filter) terminal given known status told
+nothing_done remaining is_before terminal filter to beside (Metrics options) given known texts status told = none_measured to options given known texts status told
+nothing_done remaining is_before terminal filter to beside (Compare options) given known texts status told = inr (told, (refl, refl))
+nothing_done remaining is_before terminal filter to beside (PageChanges options) given known texts status told = inr (told, (refl, refl))
+nothing_done remaining is_before terminal filter to beside Demo given known texts status told = record {
   outcome = Err faults.Memory;
   told = told;
   shows = refl;
@@ -115,37 +123,37 @@ nothing_done remaining is_before terminal filter to titles Demo given known text
 }
 
 -- nor of what is said up to a moment
-pub nothing_done_until : {F : Type 0} (until : Option ℕ) (remaining : F → Option (List ℕ)) (is_before : F → Type 0) (terminal : Canvas) (filter to : Option (List ℕ)) (titles : Titles) (request : Request) (given known : Option (List ℕ)) (texts : Option Texts) (status : ℕ) → status ≡ 1
-    → DoesUntil until remaining is_before terminal filter to titles request given given known known texts texts status
-nothing_done_until None remaining is_before terminal filter to titles request given known texts status told =
-    nothing_done remaining is_before terminal filter to titles request given known texts status told
-nothing_done_until (Some moment) remaining is_before terminal filter to titles request given known texts status told =
-    (option_map (front (Some moment)) given, nothing_done remaining is_before terminal filter to titles request (option_map (front (Some moment)) given) known texts status told)
+pub nothing_done_until : {F : Type 0} (until : Option ℕ) (remaining : F → Option (List ℕ)) (is_before : F → Type 0) (terminal : Canvas) (filter to : Option (List ℕ)) (beside : Beside) (request : Request) (given known : Option (List ℕ)) (texts : Option Texts) (status : ℕ) → status ≡ 1
+    → DoesUntil until remaining is_before terminal filter to beside request given given known known texts texts status
+nothing_done_until None remaining is_before terminal filter to beside request given known texts status told =
+    nothing_done remaining is_before terminal filter to beside request given known texts status told
+nothing_done_until (Some moment) remaining is_before terminal filter to beside request given known texts status told =
+    (option_map (front (Some moment)) given, nothing_done remaining is_before terminal filter to beside request (option_map (front (Some moment)) given) known texts status told)
 
 -- a watch at keys is what is asked for
-heard : {F : Type 0} (remaining : F → Option (List ℕ)) (is_before : F → Type 0) (terminal : Canvas) (filter to : Option (List ℕ)) (titles : Titles) (request : Request) (options : WatchOptions) (given left old new : Option (List ℕ)) (texts : Option Texts) (status : ℕ)
+heard : {F : Type 0} (remaining : F → Option (List ℕ)) (is_before : F → Type 0) (terminal : Canvas) (filter to : Option (List ℕ)) (beside : Beside) (request : Request) (options : WatchOptions) (given left old new : Option (List ℕ)) (texts : Option Texts) (status : ℕ)
     → at_keys request ≡ Some options → WatchesAtKeys options (filter_text filter) terminal old new status
-    → Does remaining is_before terminal filter to titles request given left old new texts texts status
-heard remaining is_before terminal filter to titles Run options given left old new texts status is watches = absurd (cc)
-heard remaining is_before terminal filter to titles (Show shown lints times) options given left old new texts status is watches = absurd (cc)
-heard remaining is_before terminal filter to titles (Find view limits times) options given left old new texts status is watches = absurd (cc)
-heard remaining is_before terminal filter to titles (Sites view lints wait_ms times) options given left old new texts status is watches = absurd (cc)
-heard remaining is_before terminal filter to titles (Page limits) options given left old new texts status is watches = absurd (cc)
-heard remaining is_before terminal filter to titles (Metrics of) options given left old new texts status is watches = absurd (cc)
-heard remaining is_before terminal filter to titles (Compare of) options given left old new texts status is watches = absurd (cc)
-heard remaining is_before terminal filter to titles (PageChanges of) options given left old new texts status is watches = absurd (cc)
-heard remaining is_before terminal filter to titles Demo options given left old new texts status is watches = absurd (cc)
-heard remaining is_before terminal filter to titles (Watch own) options given left old new texts status is watches = by own.keys is
+    → Does remaining is_before terminal filter to beside request given left old new texts texts status
+heard remaining is_before terminal filter to beside Run options given left old new texts status is watches = absurd (cc)
+heard remaining is_before terminal filter to beside (Show shown lints times) options given left old new texts status is watches = absurd (cc)
+heard remaining is_before terminal filter to beside (Find view limits times) options given left old new texts status is watches = absurd (cc)
+heard remaining is_before terminal filter to beside (Sites view lints wait_ms times) options given left old new texts status is watches = absurd (cc)
+heard remaining is_before terminal filter to beside (Page limits) options given left old new texts status is watches = absurd (cc)
+heard remaining is_before terminal filter to beside (Metrics of) options given left old new texts status is watches = absurd (cc)
+heard remaining is_before terminal filter to beside (Compare of) options given left old new texts status is watches = absurd (cc)
+heard remaining is_before terminal filter to beside (PageChanges of) options given left old new texts status is watches = absurd (cc)
+heard remaining is_before terminal filter to beside Demo options given left old new texts status is watches = absurd (cc)
+heard remaining is_before terminal filter to beside (Watch own) options given left old new texts status is watches = by own.keys is
   where
     by : (keys : Bool) → cond keys (Some own) None ≡ Some options → WatchesBy keys own (filter_text filter) terminal given left old new status
     by true same = subst (λ (w : WatchOptions). WatchesAtKeys w (filter_text filter) terminal old new status) (sym (some_is own options same)) watches
     by false same = absurd (cc)
 
 -- whatever moment is given: a watch has none
-pub heard_until : {F : Type 0} (until : Option ℕ) (remaining : F → Option (List ℕ)) (is_before : F → Type 0) (terminal : Canvas) (filter to : Option (List ℕ)) (titles : Titles) (request : Request) (options : WatchOptions) (given left old new : Option (List ℕ)) (texts : Option Texts) (status : ℕ)
+pub heard_until : {F : Type 0} (until : Option ℕ) (remaining : F → Option (List ℕ)) (is_before : F → Type 0) (terminal : Canvas) (filter to : Option (List ℕ)) (beside : Beside) (request : Request) (options : WatchOptions) (given left old new : Option (List ℕ)) (texts : Option Texts) (status : ℕ)
     → at_keys request ≡ Some options → WatchesAtKeys options (filter_text filter) terminal old new status
-    → DoesUntil until remaining is_before terminal filter to titles request given left old new texts texts status
-heard_until None remaining is_before terminal filter to titles request options given left old new texts status is watches =
-    heard remaining is_before terminal filter to titles request options given left old new texts status is watches
-heard_until (Some moment) remaining is_before terminal filter to titles request options given left old new texts status is watches =
-    (left, heard remaining is_before terminal filter to titles request options (option_map (front (Some moment)) given) left old new texts status is watches)
+    → DoesUntil until remaining is_before terminal filter to beside request given left old new texts texts status
+heard_until None remaining is_before terminal filter to beside request options given left old new texts status is watches =
+    heard remaining is_before terminal filter to beside request options given left old new texts status is watches
+heard_until (Some moment) remaining is_before terminal filter to beside request options given left old new texts status is watches =
+    (left, heard remaining is_before terminal filter to beside request options (option_map (front (Some moment)) given) left old new texts status is watches)

@@ -26,10 +26,10 @@ use Rattle.tk_client.specs.Warnings.{LintsView}
 use Rattle.tk_report.specs.declared.view.View.{View}
 use Rattle.tk_report.specs.declared.view.View.TheVariants.{Report, Lint}
 use Rattle.tk_frame.specs.declared.query.Column.{Column}
-use Rattle.taskscope.specs.Moments.{number_of}
+use Rattle.taskscope.specs.Moments.{number_of, time_of}
 use Rattle.taskscope.specs.declared.command_line.Request.TheVariants.{Metrics, Watch}
 use Rattle.tk_metrics.specs.declared.by.By.{By}
-use Rattle.taskscope.specs.Requests.{asked, asked_in, by_at, by_place_at, column_at, flag_option, lints_in, span_option, metrics_by, name_fault, names_no_moment, names_nothing, number_option, page_by, program, refusals, text_option, view_of, view_by, watch_by}
+use Rattle.taskscope.specs.Requests.{asked, asked_in, by_at, by_place_at, column_at, explains_two, count_option, flag_option, limit_at, lints_in, lints_with, long_poll, long_wait, metrics_by, name_fault, names_no_moment, names_no_span, names_no_time, names_nothing, number_at, number_option, page_by, program, refusals, text_at, text_option, view_of, view_by, watch_by}
 
 -- ---- lists of kinds
 
@@ -181,25 +181,25 @@ module _ (name : Text) (index : ℕ) (no_percent : bytes_eq name percent_id ≡ 
       rw one.1 (good_at name (more_values CommandLine (one.0 ∷ [])) (new_row name CommandLine one.0 ∷ []) (without name rows)
       (good_at name (λ _. []) [] rows good (λ r g. tt) tt) (good_more CommandLine (one.0 ∷ [])) (new_file one.0, tt))
 
--- an option of milliseconds is no option of lints
+-- an option of another number is no option of lints
 module _ (name : Text) (no_percent : bytes_eq name percent_id ≡ false) (no_limit : bytes_eq name limit_id ≡ false) where
-  abbrev span_rule : Rule
-  span_rule = with_index 1 (filled (span_option name))
+  abbrev count_rule : Rule
+  count_rule = with_index 1 (filled (count_option name))
 
   -- a use of it has one value
-  span_use : (again : Bool) (values : List Text) (rows : List Row) → use_fault again span_rule values rows ≡ [] → (v : Text) × (values ≡ v ∷ [])
-  span_use again [] rows none = absurd (some_kind _ _ none)
-  span_use again (v ∷ []) rows none = (v, refl)
-  span_use again (v ∷ w ∷ vs) rows none = absurd (some_kind _ _ (sym (two_values (length vs)) ∙ first_none _ _ none))
+  count_use : (again : Bool) (values : List Text) (rows : List Row) → use_fault again count_rule values rows ≡ [] → (v : Text) × (values ≡ v ∷ [])
+  count_use again [] rows none = absurd (some_kind _ _ none)
+  count_use again (v ∷ []) rows none = (v, refl)
+  count_use again (v ∷ w ∷ vs) rows none = absurd (some_kind _ _ (sym (two_values (length vs)) ∙ first_none _ _ none))
 
-  new_span : (v : Text) → IsGood (new_row name CommandLine v)
-  new_span v = (λ is. absurd (true≢false (sym is ∙ no_percent)), λ is. absurd (true≢false (sym is ∙ no_limit)))
+  new_count : (v : Text) → IsGood (new_row name CommandLine v)
+  new_count v = (λ is. absurd (true≢false (sym is ∙ no_percent)), λ is. absurd (true≢false (sym is ∙ no_limit)))
 
-  sound_span : Sound span_rule
-  sound_span again values rows good none =
-      let one = span_use again values rows none in
+  sound_count : Sound count_rule
+  sound_count again values rows good none =
+      let one = count_use again values rows none in
       rw one.1 (good_at name (more_values CommandLine (one.0 ∷ [])) (new_row name CommandLine one.0 ∷ []) (without name rows)
-      (good_at name (λ _. []) [] rows good (λ r g. tt) tt) (good_more CommandLine (one.0 ∷ [])) (new_span one.0, tt))
+      (good_at name (λ _. []) [] rows good (λ r g. tt) tt) (good_more CommandLine (one.0 ∷ [])) (new_count one.0, tt))
 
 -- nor is an option of a text
 module _ (name : Text) (no_percent : bytes_eq name percent_id ≡ false) (no_limit : bytes_eq name limit_id ≡ false) where
@@ -216,7 +216,7 @@ module _ (name : Text) (no_percent : bytes_eq name percent_id ≡ false) (no_lim
   sound_text again values rows good none =
       let one = text_use again values rows none in
       rw one.1 (good_at name (more_values CommandLine (one.0 ∷ [])) (new_row name CommandLine one.0 ∷ []) (without name rows)
-      (good_at name (λ _. []) [] rows good (λ r g. tt) tt) (good_more CommandLine (one.0 ∷ [])) (new_span name no_percent no_limit one.0, tt))
+      (good_at name (λ _. []) [] rows good (λ r g. tt) tt) (good_more CommandLine (one.0 ∷ [])) (new_count name no_percent no_limit one.0, tt))
 
 -- where no value is wanted, one is too many
 no_values : (n : ℕ) → range_kinds 0 0 (suc n) ≡ WrongNumberOfValues ∷ []
@@ -265,10 +265,10 @@ abbrev explain_rule : Rule
 explain_rule = flag_rule (codes "explain") refl refl
 
 abbrev long_poll_rule : Rule
-long_poll_rule = span_rule (codes "long-poll") refl refl
+long_poll_rule = text_rule (codes "long-poll") refl refl
 
 abbrev long_wait_rule : Rule
-long_wait_rule = span_rule (codes "long-wait") refl refl
+long_wait_rule = text_rule (codes "long-wait") refl refl
 
 abbrev findings_rule : Rule
 findings_rule = flag_rule (codes "findings") refl refl
@@ -277,7 +277,7 @@ abbrev by_rule : Rule
 by_rule = text_rule (codes "by") refl refl
 
 abbrev place_rule : Rule
-place_rule = span_rule (codes "place") refl refl
+place_rule = count_rule (codes "place") refl refl
 
 abbrev title_rule : Rule
 title_rule = text_rule (codes "title") refl refl
@@ -285,17 +285,26 @@ title_rule = text_rule (codes "title") refl refl
 abbrev until_rule : Rule
 until_rule = text_rule (codes "until") refl refl
 
+abbrev since_rule : Rule
+since_rule = text_rule (codes "since") refl refl
+
+abbrev lasting_rule : Rule
+lasting_rule = text_rule (codes "last") refl refl
+
 abbrev later_rule : Rule
 later_rule = file_rule (codes "AFTER") 2 refl refl
 
+abbrev yields_rule : Rule
+yields_rule = text_rule (codes "never-yielded") refl refl
+
 abbrev page_rules : List Rule
-page_rules = long_poll_rule ∷ title_rule ∷ until_rule ∷ later_rule ∷ explain_rule ∷ last_rules
+page_rules = yields_rule ∷ long_poll_rule ∷ title_rule ∷ until_rule ∷ later_rule ∷ explain_rule ∷ last_rules
 
 abbrev lint_rules : List Rule
-lint_rules = long_poll_rule ∷ long_wait_rule ∷ findings_rule ∷ by_rule ∷ until_rule ∷ explain_rule ∷ last_rules
+lint_rules = yields_rule ∷ long_poll_rule ∷ long_wait_rule ∷ findings_rule ∷ by_rule ∷ until_rule ∷ since_rule ∷ lasting_rule ∷ explain_rule ∷ last_rules
 
 abbrev view_rules : List Rule
-view_rules = long_poll_rule ∷ long_wait_rule ∷ findings_rule ∷ by_rule ∷ until_rule ∷ times_rule ∷ place_rule ∷ explain_rule ∷ last_rules
+view_rules = yields_rule ∷ long_poll_rule ∷ long_wait_rule ∷ findings_rule ∷ by_rule ∷ until_rule ∷ since_rule ∷ lasting_rule ∷ times_rule ∷ place_rule ∷ explain_rule ∷ last_rules
 
 -- ---- the walk keeps rows good
 
@@ -546,13 +555,13 @@ last_keeps : AllKeep last_rules
 last_keeps = (keeps_without (codes "help"), tt)
 
 page_keeps : AllKeep page_rules
-page_keeps = (keeps_without (codes "long-poll"), (keeps_without (codes "title"), (keeps_without (codes "until"), (keeps_without (codes "AFTER"), (keeps_explain, last_keeps)))))
+page_keeps = (keeps_without (codes "never-yielded"), (keeps_without (codes "long-poll"), (keeps_without (codes "title"), (keeps_without (codes "until"), (keeps_without (codes "AFTER"), (keeps_explain, last_keeps))))))
 
 lint_keeps : AllKeep lint_rules
-lint_keeps = (keeps_without (codes "long-poll"), (keeps_without (codes "long-wait"), (keeps_findings, (keeps_without (codes "by"), (keeps_without (codes "until"), (keeps_explain, last_keeps))))))
+lint_keeps = (keeps_without (codes "never-yielded"), (keeps_without (codes "long-poll"), (keeps_without (codes "long-wait"), (keeps_findings, (keeps_without (codes "by"), (keeps_without (codes "until"), (keeps_without (codes "since"), (keeps_without (codes "last"), (keeps_explain, last_keeps)))))))))
 
 view_keeps : AllKeep view_rules
-view_keeps = (keeps_without (codes "long-poll"), (keeps_without (codes "long-wait"), (keeps_findings, (keeps_without (codes "by"), (keeps_without (codes "until"), (keeps_times, (keeps_without (codes "place"), (keeps_explain, last_keeps))))))))
+view_keeps = (keeps_without (codes "never-yielded"), (keeps_without (codes "long-poll"), (keeps_without (codes "long-wait"), (keeps_findings, (keeps_without (codes "by"), (keeps_without (codes "until"), (keeps_without (codes "since"), (keeps_without (codes "last"), (keeps_times, (keeps_without (codes "place"), (keeps_explain, last_keeps)))))))))))
 
 both_defaults : (rows : List Row) → AreGood rows → HaveNumbers (defaulted limit_id (codes "1000000000") (defaulted percent_id (codes "50") rows))
 unfolding HaveNumbers
@@ -595,14 +604,35 @@ number_passed n text small passed =
     let in_range = (both (nat_lt value (2 ^ 64)) _ (both (is_numeral (without_leading_plus text)) _ passed).1).1 in
     (rw wide refl, (both (nat_le 0 value) _ in_range).1)
 
-lints_there : (rows : List Row) → HaveNumbers rows → IsSome (lints_in rows)
+first_false : (a b : Bool) → (a || b) ≡ false → a ≡ false
+first_false true b e = absurd (true≢false e)
+first_false false b e = refl
+
+-- the limit of a first poll is there, as a number if no time is said
+limit_there : (number : Option ℕ) (said : Option Text) → IsSome number → (is_some said && not (is_some (option_map_or time_of said number))) ≡ false
+    → IsSome (option_map_or time_of said number)
+limit_there number None there timed = there
+limit_there number (Some t) there timed = go (time_of t) timed
+  where
+    go : (time : Option ℕ) → not (is_some time) ≡ false → IsSome time
+    go None timed = absurd (true≢false timed)
+    go (Some n) timed = refl
+
+lints_of_both : (percent : ℕ) (limit : Option ℕ) → nat_le percent 100 ≡ true → IsSome limit → IsSome (lints_with percent limit)
+lints_of_both percent None small some = absurd (true≢false (sym some))
+lints_of_both percent (Some limit) small some = rw small refl
+
+-- where no time is misread, the lints are there
+lints_there : (name : Text) (rows : List Row) → HaveNumbers rows → names_no_time name rows ≡ false → IsSome (lints_in rows)
 unfolding HaveNumbers
-lints_there rows numbers =
+lints_there name rows numbers timed =
     let percent = row_found percent_id 100 rows numbers.0 (λ r g. g.0) numbers.1 in
     let limit = row_found limit_id most rows numbers.0 (λ r g. g.1) numbers.2 in
     let percent_is = number_passed 100 percent.0 refl percent.2 in
     let limit_is = number_passed most limit.0 refl limit.2 in
-    rw (percent.1, limit.1, percent_is.0, limit_is.0, percent_is.1) refl
+    let number : IsSome (number_at limit_id rows) = rw (limit.1, limit_is.0) refl in
+    let said = limit_there (number_at limit_id rows) (text_at (codes "never-yielded") rows) number (first_false _ _ (first_false _ _ timed)) in
+    rw (percent.1, percent_is.0) (lints_of_both _ (limit_at rows) percent_is.1 said)
 
 -- ---- the command that the words name
 
@@ -774,28 +804,35 @@ options_in None = []
 options_in (Some command) = command.1
 
 -- where an option names something, so do the keys among them
-keys_named : (options : List Row) (b : Bool) → (names_no_moment options || b) ≡ false → b ≡ false
-keys_named options b = last_false (names_no_moment options) b
+keys_named : (name : Text) (options : List Row) (b : Bool)
+    → (names_no_time name options || (names_no_moment options || (names_no_span name options || (explains_two options || b)))) ≡ false → b ≡ false
+keys_named name options b named =
+    last_false (explains_two options) b
+    (last_false (names_no_span name options) _ (last_false (names_no_moment options) _ (last_false (names_no_time name options) _ named)))
   where
     last_false : (a b : Bool) → (a || b) ≡ false → b ≡ false
     last_false true b named = absurd (true≢false named)
     last_false false b named = named
 
+-- and times are read
+times_named : (name : Text) (options : List Row) → names_nothing (Some (name, options)) ≡ false → names_no_time name options ≡ false
+times_named name options named = first_false (names_no_time name options) _ named
+
 show_named : (options : List Row) → names_nothing (Some (codes "view", options)) ≡ false → IsSome (lints_in options) → IsSome (asked_in (Some (codes "view", options)))
-show_named options named = view_asks_of Report options (by_place_at Report options) (keys_named options _ named)
+show_named options named = view_asks_of Report options (by_place_at Report options) (keys_named (codes "view") options _ named)
 
 show_asks : (words : List Text) → TakenAsks (codes "view") words
 show_asks words none named =
     show_named (options_in (entered there (Some (codes "view", words)))) named
-    (lints_there _ (numbers_there view_rules (sound_span (codes "long-poll") refl refl, (sound_span (codes "long-wait") refl refl, (sound_flag (codes "findings") refl refl, (sound_text (codes "by") refl refl, (sound_text (codes "until") refl refl, (sound_flag (codes "times") refl refl, (sound_span (codes "place") refl refl, (sound_flag (codes "explain") refl refl, (sound_help, tt))))))))) view_keeps _ words refl none))
+    (lints_there (codes "view") _ (numbers_there view_rules (sound_text (codes "never-yielded") refl refl, (sound_text (codes "long-poll") refl refl, (sound_text (codes "long-wait") refl refl, (sound_flag (codes "findings") refl refl, (sound_text (codes "by") refl refl, (sound_text (codes "until") refl refl, (sound_text (codes "since") refl refl, (sound_text (codes "last") refl refl, (sound_flag (codes "times") refl refl, (sound_count (codes "place") refl refl, (sound_flag (codes "explain") refl refl, (sound_help, tt)))))))))))) view_keeps _ words refl none) (times_named (codes "view") (options_in (entered there (Some (codes "view", words)))) named))
 
 warn_named : (options : List Row) → names_nothing (Some (codes "lint", options)) ≡ false → IsSome (lints_in options) → IsSome (asked_in (Some (codes "lint", options)))
-warn_named options named = view_asks_of Lint options (by_place_at Lint options) (keys_named options _ named)
+warn_named options named = view_asks_of Lint options (by_place_at Lint options) (keys_named (codes "lint") options _ named)
 
 lint_asks : (words : List Text) → TakenAsks (codes "lint") words
 lint_asks words none named =
     warn_named (options_in (entered there (Some (codes "lint", words)))) named
-    (lints_there _ (numbers_there lint_rules (sound_span (codes "long-poll") refl refl, (sound_span (codes "long-wait") refl refl, (sound_flag (codes "findings") refl refl, (sound_text (codes "by") refl refl, (sound_text (codes "until") refl refl, (sound_flag (codes "explain") refl refl, (sound_help, tt))))))) lint_keeps _ words refl none))
+    (lints_there (codes "lint") _ (numbers_there lint_rules (sound_text (codes "never-yielded") refl refl, (sound_text (codes "long-poll") refl refl, (sound_text (codes "long-wait") refl refl, (sound_flag (codes "findings") refl refl, (sound_text (codes "by") refl refl, (sound_text (codes "until") refl refl, (sound_text (codes "since") refl refl, (sound_text (codes "last") refl refl, (sound_flag (codes "explain") refl refl, (sound_help, tt)))))))))) lint_keeps _ words refl none) (times_named (codes "lint") (options_in (entered there (Some (codes "lint", words)))) named))
 
 page_named : (options : List Row) → IsSome (lints_in options) → IsSome (asked_in (Some (codes "page", options)))
 page_named options some = page_asks_of options (lints_in options) some
@@ -803,16 +840,16 @@ page_named options some = page_asks_of options (lints_in options) some
 page_asks : (words : List Text) → TakenAsks (codes "page") words
 page_asks words none named =
     page_named (options_in (entered there (Some (codes "page", words))))
-    (lints_there _ (numbers_there page_rules (sound_span (codes "long-poll") refl refl, (sound_text (codes "title") refl refl, (sound_text (codes "until") refl refl, (sound_file (codes "AFTER") 2 refl refl, (sound_flag (codes "explain") refl refl, (sound_help, tt)))))) page_keeps _ words refl none))
+    (lints_there (codes "page") _ (numbers_there page_rules (sound_text (codes "never-yielded") refl refl, (sound_text (codes "long-poll") refl refl, (sound_text (codes "title") refl refl, (sound_text (codes "until") refl refl, (sound_file (codes "AFTER") 2 refl refl, (sound_flag (codes "explain") refl refl, (sound_help, tt))))))) page_keeps _ words refl none) (times_named (codes "page") (options_in (entered there (Some (codes "page", words)))) named))
 
 watch_named : (options : List Row) → names_nothing (Some (codes "watch", options)) ≡ false → IsSome (asked_in (Some (codes "watch", options)))
-watch_named options named = watch_asks_of options (column_at options) (keys_named options _ named)
+watch_named options named = watch_asks_of options (column_at options) (keys_named (codes "watch") options _ named)
 
 watch_asks : (words : List Text) → TakenAsks (codes "watch") words
 watch_asks words none named = watch_named (options_in (entered there (Some (codes "watch", words)))) named
 
 metrics_named : (options : List Row) → names_nothing (Some (codes "metrics", options)) ≡ false → IsSome (asked_in (Some (codes "metrics", options)))
-metrics_named options named = metrics_asks_of options (by_at options) (keys_named options _ named)
+metrics_named options named = metrics_asks_of options (by_at options) (keys_named (codes "metrics") options _ named)
 
 metrics_asks : (words : List Text) → TakenAsks (codes "metrics") words
 metrics_asks words none named = metrics_named (options_in (entered there (Some (codes "metrics", words)))) named

@@ -1,5 +1,6 @@
 -- What the words ask for, by what a parse finds in them.
-use Rattle.std.proofs.Common.{◌≡◌, Bool, cond, true, false, ap, ap₂, sym, ◌∙◌, ◌⊎◌, [], ◌∷◌, List, ℕ, Some, subst, unwrap_or, inl, inr}
+use Rattle.std.proofs.Common.{◌≡◌, Bool, cond, true, false, true≢false, ap, ap₂, sym, ◌∙◌, ◌⊎◌, [], ◌∷◌, List, ℕ, Option, Some, None, is_some, subst, unwrap_or, inl, inr}
+use Rattle.std.specs.Option.{option_map, option_map_or}
 use Rattle.std.specs.List.{list_all}
 use Rattle.clap.specs.Faults.{fault_of}
 use Rattle.clap.specs.Kinds.{HasKind, IsAmong, Kinds, or_else}
@@ -13,6 +14,12 @@ use Rattle.taskscope.specs.Requests.{is_mistake, names_nothing, program, refusal
 
 pub some_is : {A : Type 0} (x y : A) → Some x ≡ Some y → x ≡ y
 some_is x y e = ap (λ o. unwrap_or o x) e
+
+-- what holds of both parts of a value, where it is there and its parts are these
+pub both_parts : {B X Y : Type 0} (n : B → X) (r : B → Y) (f : X → Y → Bool) (o : Option B) (x : X) (y : Y) → Some x ≡ option_map n o
+    → Some y ≡ option_map (λ (p : X × Y). p.1) (option_map (λ (b : B). (n b, r b)) o) → f x y ≡ option_map_or (λ (p : X × Y). f p.0 p.1) (option_map (λ (b : B). (n b, r b)) o) false
+both_parts n r f None x y g h = absurd (true≢false (ap is_some g))
+both_parts n r f (Some b) x y g h = ap₂ f (some_is x (n b) g) (some_is y (r b) h)
 
 -- ---- which kinds may come
 

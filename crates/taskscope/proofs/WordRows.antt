@@ -13,7 +13,7 @@ use Rattle.tk_frame.specs.declared.query.Column.TheVariants.{HeldUp, Polls, Sche
 use Rattle.tk_metrics.specs.declared.by.By.TheVariants.{Id, Place}
 use Rattle.tk_sites.specs.declared.sites_view.SitesView.TheVariants.{All, One}
 use Rattle.tk_found.specs.Views.{limits_by}
-use Rattle.taskscope.specs.Requests.{AsksFor, AsksForHelp, AsksForInput, AsksForVersion, IsMistake, before_text, file_of, filter_of, plain_metrics, plain_watch, refusals, title_text, to_of, until_of}
+use Rattle.taskscope.specs.Requests.{AsksFor, AsksForHelp, AsksForInput, AsksForVersion, IsMistake, before_text, file_of, filter_of, plain_metrics, plain_watch, refusals, since_of, title_text, to_of, until_of}
 
 -- the program is called by some name
 module _ (name : List ℕ) where
@@ -202,6 +202,39 @@ module _ (name : List ℕ) where
   unfolding clap_on_literals jiff_fmt_on_literals
   no_moment = refl
 
+  since_a_moment : since_of (name ∷ codes "lint" ∷ codes "--findings" ∷ codes "--since" ∷ codes "36900000000" ∷ []) ≡ Some (At 36900000000)
+  unfolding clap_on_literals
+  since_a_moment = refl
+
+  the_last_while : since_of (name ∷ codes "view" ∷ codes "--by=place" ∷ codes "--last=12.5s" ∷ codes "a.stream" ∷ []) ≡ Some (BeforeEnd 12500000000)
+  unfolding clap_on_literals jiff_fmt_on_literals
+  the_last_while = refl
+
+  -- of a span of places a file is read twice
+  the_earlier_part : before_text (name ∷ codes "view" ∷ codes "--by=place" ∷ codes "--last=12.5s" ∷ codes "a.stream" ∷ []) ≡ codes "a.stream"
+  unfolding clap_on_literals
+  the_earlier_part = refl
+
+  no_span_of_rows : refusals (name ∷ codes "view" ∷ codes "--since=5" ∷ codes "a.stream" ∷ []) ≡ InvalidValue ∷ []
+  unfolding clap_on_literals jiff_fmt_on_literals
+  no_span_of_rows = refl
+
+  no_span_of_an_input : refusals (name ∷ codes "view" ∷ codes "--by=place" ∷ codes "--since=5" ∷ []) ≡ InvalidValue ∷ []
+  unfolding clap_on_literals jiff_fmt_on_literals
+  no_span_of_an_input = refl
+
+  no_span_by_both : refusals (name ∷ codes "lint" ∷ codes "--findings" ∷ codes "--since=5" ∷ codes "--last=5s" ∷ codes "a.stream" ∷ []) ≡ InvalidValue ∷ []
+  unfolding clap_on_literals jiff_fmt_on_literals
+  no_span_by_both = refl
+
+  no_span_of_a_number : refusals (name ∷ codes "lint" ∷ codes "--findings" ∷ codes "--last=5" ∷ codes "a.stream" ∷ []) ≡ InvalidValue ∷ []
+  unfolding clap_on_literals jiff_fmt_on_literals
+  no_span_of_a_number = refl
+
+  no_fault_of_two : refusals (name ∷ codes "page" ∷ codes "a.stream" ∷ codes "b.stream" ∷ codes "--explain" ∷ []) ≡ InvalidValue ∷ []
+  unfolding clap_on_literals jiff_fmt_on_literals
+  no_fault_of_two = refl
+
   what_changed : AsksFor (PageChanges (record { limits = limits_by default_lints None; margin = record { percent = 50; least = 1000000 } }))
       (name ∷ codes "page" ∷ codes "a.stream" ∷ codes "b.stream" ∷ [])
   unfolding clap_on_literals
@@ -257,9 +290,45 @@ module _ (name : List ℕ) where
   unfolding clap_on_literals
   a_percentage_too_large = refl
 
-  every_poll_a_long_one : refusals (name ∷ codes "lint" ∷ codes "--long-poll=0" ∷ []) ≡ ValueValidation ∷ []
+  every_poll_a_long_one : refusals (name ∷ codes "lint" ∷ codes "--long-poll=0" ∷ []) ≡ InvalidValue ∷ []
   unfolding clap_on_literals
   every_poll_a_long_one = refl
+
+  -- a time says its unit
+  a_tenth_of_a_second : AsksFor (Show Lint default_lints (record { times = false; limits = record { poll_ms = Some 100; wait_ms = Some 2000 } }))
+      (name ∷ codes "lint" ∷ codes "--long-poll=100ms" ∷ codes "--long-wait=2s" ∷ [])
+  unfolding clap_on_literals jiff_fmt_on_literals
+  a_tenth_of_a_second = (refl, refl)
+
+  no_part_of_a_millisecond : refusals (name ∷ codes "lint" ∷ codes "--long-poll=1500us" ∷ []) ≡ InvalidValue ∷ []
+  unfolding clap_on_literals jiff_fmt_on_literals
+  no_part_of_a_millisecond = refl
+
+  no_time : refusals (name ∷ codes "page" ∷ codes "--never-yielded=long" ∷ []) ≡ InvalidValue ∷ []
+  unfolding clap_on_literals jiff_fmt_on_literals
+  no_time = refl
+
+  first_polls_of_two_seconds : AsksFor (Show Lint (record { self_wake_percent = 50; never_yielded_ns = 2000000000 }) no_times)
+      (name ∷ codes "lint" ∷ codes "--never-yielded" ∷ codes "2s" ∷ [])
+  unfolding clap_on_literals jiff_fmt_on_literals
+  first_polls_of_two_seconds = (refl, refl)
+
+  two_screens_a_second : AsksFor (Watch (record plain_watch { every = 500 })) (name ∷ codes "watch" ∷ codes "--every=500ms" ∷ [])
+  unfolding clap_on_literals jiff_fmt_on_literals
+  two_screens_a_second = (refl, refl)
+
+  no_screen_for_two_hours : refusals (name ∷ codes "watch" ∷ codes "--every=2h" ∷ []) ≡ InvalidValue ∷ []
+  unfolding clap_on_literals jiff_fmt_on_literals
+  no_screen_for_two_hours = refl
+
+  each_minute : AsksFor (Metrics (record plain_metrics { every = 60 })) (name ∷ codes "metrics" ∷ codes "--every" ∷ codes "1m" ∷ [])
+  unfolding clap_on_literals jiff_fmt_on_literals
+  each_minute = (refl, refl)
+
+  half_a_millisecond : AsksForInput (Compare (record { limits = limits_by default_lints None; margin = record { percent = 50; least = 500000 } }))
+      (name ∷ codes "compare" ∷ codes "a.stream" ∷ codes "--at-least=500us" ∷ [])
+  unfolding clap_on_literals jiff_fmt_on_literals
+  half_a_millisecond = ((refl, refl), refl)
 
   histograms_of_warnings : refusals (name ∷ codes "lint" ∷ codes "--times" ∷ []) ≡ UnknownArgument ∷ []
   unfolding clap_on_literals

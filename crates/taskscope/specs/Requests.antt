@@ -1,7 +1,7 @@
 -- What words of a command line ask for.
 use Rattle.std.specs.Prelude.{◌≡◌, ◌≢◌, ◌&&◌, ◌||◌, ◌*◌, min, ℕ, Bool, true, false, not, List, [], ◌∷◌, Option, Some, None, if◌then◌else◌, codes, map, nat_le, option_and_then, is_some, unwrap_or, String, IsSome}
 use Rattle.std.specs.List.{list_all}
-use Rattle.std.specs.Option.{option_map_or}
+use Rattle.std.specs.Option.{option_map, option_map_or}
 use Rattle.std.specs.Str.{bytes_eq}
 use Rattle.clap.specs.Simple.{App, new_app, new_rule, new_shape, on_top, subcommand_of, with_rule, with_subcommand}
 use Rattle.clap.specs.Kinds.{Kinds, or_else}
@@ -24,7 +24,7 @@ use Rattle.tk_sites.specs.declared.sites_view.SitesView.{SitesView}
 use Rattle.tk_sites.specs.declared.sites_view.SitesView.TheVariants.{All, One}
 use Rattle.tk_metrics.specs.declared.by.By.{By}
 use Rattle.tk_metrics.specs.declared.by.By.TheVariants.{Name, Id, Place}
-use Rattle.taskscope.specs.Moments.{moment_of, number_of}
+use Rattle.taskscope.specs.Moments.{moment_of, nanos_of, number_of, time_of, units_within}
 use Rattle.taskscope.specs.declared.moments.Moment.{Moment}
 use Rattle.taskscope.specs.declared.moments.Moment.TheVariants.{At, BeforeEnd}
 use Rattle.taskscope.specs.declared.command_line.Request.{Request}
@@ -66,17 +66,21 @@ file_argument = new_rule (codes "FILE")
 abbrev pub reading_command : Text → App
 reading_command name = with_rule (new_app name) file_argument
 
--- a command with the two options of lints
+-- the option of how long a first poll runs before it is warned of, as a time
+abbrev pub yields_option : Rule
+yields_option = text_option (codes "never-yielded")
+
+-- a command with the options of lints
 abbrev pub with_lints : App → App
-with_lints command = with_rule (with_rule command percent_option) limit_option
+with_lints command = with_rule (with_rule (with_rule command percent_option) limit_option) yields_option
 
 -- a command that reads a stream, with these
 abbrev pub view_command : Text → App
 view_command name = with_lints (reading_command name)
 
--- an option of a number from 1 on, as so many milliseconds, which is there or not
-abbrev pub span_option : Text → Rule
-span_option name = record (new_rule name) {
+-- an option of a number from 1 on, which is there or not
+abbrev pub count_option : Text → Rule
+count_option name = record (new_rule name) {
   long = Some name;
   value_names = 1;
   parser = Some (vp.Unsigned 1 18446744073709551615);
@@ -86,13 +90,22 @@ span_option name = record (new_rule name) {
 abbrev pub until_option : Rule
 until_option = text_option (codes "until")
 
--- such a command that also warns of long polls and long waits, where these options are there: from how many milliseconds on they are long. It tells
--- what is odd in place of warnings where it is asked to, and adds tasks up where it is said by what
+-- the options of the moment since which a stream is looked at: it is named, or it is so long before the end
+abbrev pub since_option : Rule
+since_option = text_option (codes "since")
+
+abbrev pub last_option : Rule
+last_option = text_option (codes "last")
+
+-- such a command that also warns of long polls and long waits, where these options are there: from how long on they are long. It tells
+-- what is odd in place of warnings where it is asked to, and adds tasks up where it is said by what. It is told up to which moment, and
+-- since which
 abbrev pub spans_command : Text → App
 spans_command name =
-    let spans = with_rule (with_rule (view_command name) (span_option (codes "long-poll"))) (span_option (codes "long-wait")) in
+    let spans = with_rule (with_rule (view_command name) (text_option (codes "long-poll"))) (text_option (codes "long-wait")) in
     let odd = with_rule spans (flag_option (codes "findings")) in
-    with_rule (with_rule odd (text_option (codes "by"))) until_option
+    let ends = with_rule (with_rule odd (text_option (codes "by"))) until_option in
+    with_rule (with_rule ends since_option) last_option
 
 -- a command that explains a fault where it is asked to
 abbrev pub explaining : App → App
@@ -104,7 +117,8 @@ run_command = explaining (reading_command (codes "run"))
 
 -- the command that writes the report, with histograms, or one place by its number, where they are asked for
 abbrev pub report_command : App
-report_command = explaining (with_rule (with_rule (spans_command (codes "view")) (flag_option (codes "times"))) (span_option (codes "place")))
+report_command = explaining (with_rule (with_rule (spans_command (codes "view")) (flag_option (codes "times")))
+    (count_option (codes "place")))
 
 -- the command that writes the warnings
 abbrev pub lint_command : App
@@ -114,11 +128,11 @@ lint_command = explaining (spans_command (codes "lint"))
 abbrev pub later_argument : Rule
 later_argument = new_rule (codes "AFTER")
 
--- the command that draws a page, with the options of what a long poll is, of a title, of a moment, and of a fault that is explained, or one of what
--- changed since an earlier stream
+-- the command that draws a page. Its options say what a long poll is, a title, a moment, and that a fault is explained. With an earlier
+-- stream it draws what changed since
 abbrev pub page_command : App
 page_command =
-    let titled = with_rule (with_rule (view_command (codes "page")) (span_option (codes "long-poll"))) (text_option (codes "title")) in
+    let titled = with_rule (with_rule (view_command (codes "page")) (text_option (codes "long-poll"))) (text_option (codes "title")) in
     explaining (with_rule (with_rule titled until_option) later_argument)
 
 -- the command that watches a stream, with the options of what its screens show
@@ -133,7 +147,7 @@ shows_command =
 -- and with those of when they are drawn
 abbrev pub watch_command : App
 watch_command =
-    let slow = with_rule shows_command (number_option (codes "every") (codes "100") 3600000) in
+    let slow = with_rule shows_command (text_option (codes "every")) in
     let followed = with_rule slow (flag_option (codes "follow")) in
     let keyed = with_rule followed (flag_option (codes "keys")) in
     with_rule keyed (flag_option (codes "plain"))
@@ -143,9 +157,9 @@ abbrev pub metrics_command : App
 metrics_command =
     let told_apart = with_rule (view_command (codes "metrics")) (text_option (codes "by")) in
     let kept = with_rule told_apart (text_option (codes "to")) in
-    let slow = with_rule kept (number_option (codes "every") (codes "10") 86400) in
+    let slow = with_rule kept (text_option (codes "every")) in
     let followed = with_rule slow (flag_option (codes "follow")) in
-    let few = with_rule followed (span_option (codes "series")) in
+    let few = with_rule followed (count_option (codes "series")) in
     with_rule few until_option
 
 -- the earlier one of two streams, which must be named
@@ -163,9 +177,9 @@ streams_command = with_rule (with_rule (new_app (codes "compare")) before_argume
 -- and with the options of findings, and those that say what a change is
 abbrev pub compare_command : App
 compare_command =
-    let spans = with_rule (with_lints streams_command) (span_option (codes "long-poll")) in
+    let spans = with_rule (with_lints streams_command) (text_option (codes "long-poll")) in
     let shares = with_rule spans (number_option (codes "more-than") (codes "50") 4294967295) in
-    with_rule shares (number_option (codes "at-least") (codes "1") 18446744073709551615)
+    with_rule shares (text_option (codes "at-least"))
 
 -- a command is required
 abbrev pub requiring : App → App
@@ -212,43 +226,69 @@ lints_of percent limit =
 abbrev pub lints_with : ℕ → Option ℕ → Option LintsView
 lints_with percent = option_and_then (lints_of percent)
 
--- the lints of a command's options
-abbrev pub lints_in : List Row → Option LintsView
-lints_in options =
-    option_and_then (λ percent. lints_with percent (number_at (codes "never-yielded-ns") options)) (number_at (codes "self-wake-percent") options)
-
 -- the text of an option
 abbrev pub text_at : Text → List Row → Option Text
 text_at name = first_of name
+
+-- how many of a unit, from the least to the most, an option says
+abbrev pub units_at : ℕ → ℕ → ℕ → Text → List Row → Option ℕ
+units_at unit least most name options = option_and_then (units_within unit least most) (text_at name options)
+
+-- from how many milliseconds on a poll is long, and a wait
+abbrev pub long_poll : List Row → Option ℕ
+long_poll = units_at 1000000 1 18446744073709551615 (codes "long-poll")
+
+abbrev pub long_wait : List Row → Option ℕ
+long_wait = units_at 1000000 1 18446744073709551615 (codes "long-wait")
+
+-- how many milliseconds lie between two screens of a watch at least: up to an hour
+abbrev pub screens_every : List Row → Option ℕ
+screens_every = units_at 1000000 0 3600000 (codes "every")
+
+-- how many seconds lie between two texts of a file at least: up to a day
+abbrev pub texts_every : List Row → Option ℕ
+texts_every = units_at 1000000000 0 86400 (codes "every")
+
+-- how many nanoseconds of each second are a change at least
+abbrev pub least_at : List Row → Option ℕ
+least_at options = option_and_then nanos_of (text_at (codes "at-least") options)
+
+-- how many nanoseconds a first poll runs before it is warned of: a time says them, or else a number
+abbrev pub limit_at : List Row → Option ℕ
+limit_at options = option_map_or time_of (text_at (codes "never-yielded") options) (number_at (codes "never-yielded-ns") options)
+
+-- the lints of a command's options
+abbrev pub lints_in : List Row → Option LintsView
+lints_in options = option_and_then (λ percent. lints_with percent (limit_at options)) (number_at (codes "self-wake-percent") options)
 
 -- an option is there
 abbrev pub flag_at : Text → List Row → Bool
 flag_at name options = option_map_or (λ text. bytes_eq text (codes "true")) (text_at name options) false
 
--- what a command's options ask for of poll times and waits: histograms by `--times`, and a warning of each long poll by `--long-poll` and of each long
--- wait by `--long-wait`
+-- what a command's options ask for of poll times and waits: histograms by `--times`. `--long-poll` warns of each long poll, and
+-- `--long-wait` of each long wait
 abbrev pub times_in : List Row → TimesOptions
 times_in options = record {
   times = flag_at (codes "times") options;
-  limits = record { poll_ms = number_at (codes "long-poll") options; wait_ms = number_at (codes "long-wait") options };
+  limits = record { poll_ms = long_poll options; wait_ms = long_wait options };
 }
 
--- how much is too much for what is odd: `--long-poll` says from how many milliseconds on a poll is long
+-- how much is too much for what is odd: `--long-poll` says from when on a poll is long
 abbrev pub limits_in : LintsView → List Row → Limits
-limits_in lints options = limits_by lints (number_at (codes "long-poll") options)
+limits_in lints options = limits_by lints (long_poll options)
 
 -- an option is there that places have no part in
 abbrev pub tells_no_places : List Row → Bool
 tells_no_places options =
-    flag_at (codes "findings") options || is_some (number_at (codes "long-poll") options)
+    flag_at (codes "findings") options || is_some (long_poll options)
 
 -- a lint of findings is by place in any case, since each finding is of one place at most
 abbrev pub lists_findings : View → List Row → Bool
 lists_findings Report options = false
 lists_findings Lint options = flag_at (codes "findings") options
 
--- whether tasks are added up where a view is asked for by place: not in a lint of findings, which stays as it is. There is no such view beside an option
--- that places have no part in
+-- whether tasks are added up where a view is asked for by place: not in a lint of findings, which stays as it is. There is no such view
+-- beside an option that places have no part in
 abbrev pub adds_up : View → List Row → Option Bool
 adds_up view options = if lists_findings view options then Some false else if tells_no_places options then None else Some true
 
@@ -266,7 +306,8 @@ by_place_at view options = option_map_or (by_place_named view options) (text_at 
 
 -- what is shown of places: the one that `--place` names, or all where it is said so, or nothing
 abbrev pub places_by : View → List Row → Bool → Option SitesView
-places_by view options by_place = option_map_or (λ number. Some (One number)) (number_at (codes "place") options) (if by_place then Some (All view) else None)
+places_by view options by_place =
+    option_map_or (λ number. Some (One number)) (number_at (codes "place") options) (if by_place then Some (All view) else None)
 
 -- a view of these tables, or of what is odd where that is asked for
 abbrev pub tasks_by : View → List Row → LintsView → Request
@@ -277,7 +318,7 @@ tasks_by view options lints =
 -- a view of places where that is asked for, with their histograms by `--times`, and else of tasks
 abbrev pub view_by : View → List Row → Bool → LintsView → Request
 view_by view options by_place lints =
-    option_map_or (λ places. Sites places lints (number_at (codes "long-wait") options) (flag_at (codes "times") options)) (places_by view options by_place)
+    option_map_or (λ places. Sites places lints (long_wait options) (flag_at (codes "times") options)) (places_by view options by_place)
     (tasks_by view options lints)
 
 abbrev pub view_of : View → List Row → Bool → Option Request
@@ -295,13 +336,13 @@ number_or other name options = unwrap_or (number_at name options) other
 abbrev pub lints_or_plain : List Row → LintsView
 lints_or_plain options = unwrap_or (lints_in options) default_lints
 
--- by which limits something is odd about streams that are compared, and how much more or less is a change: `--at-least` counts milliseconds
+-- by which limits something is odd about streams that are compared, and how much more or less is a change
 abbrev pub compare_by : List Row → CompareOptions
 compare_by options = record {
   limits = limits_in (lints_or_plain options) options;
   margin = record {
     percent = min (number_or 50 (codes "more-than") options) 4294967295;
-    least = min (number_or 1 (codes "at-least") options * 1000000) 18446744073709551615;
+    least = unwrap_or (least_at options) 1000000;
   };
 }
 
@@ -336,7 +377,7 @@ places_named name = if bytes_eq name (codes "place") then Some true else None
 abbrev pub shows_places : List Row → Option Bool
 shows_places options = option_map_or places_named (text_at (codes "by") options) (Some false)
 
--- the column of screens that show places, or tasks: where none is named it is for how long others waited for places, or how long tasks ran
+-- the column of screens that show places, or tasks. If none is named, it is how long others waited for places, or how long tasks ran
 abbrev pub column_for : List Row → Bool → Option Column
 column_for options by_place = option_map_or column_named (text_at (codes "sort") options) (Some (first_column by_place))
 
@@ -353,7 +394,7 @@ watch_by sort options = record {
   resources = flag_at (codes "resources") options;
   plain = flag_at (codes "plain") options;
   keys = flag_at (codes "keys") options;
-  every = number_or 100 (codes "every") options;
+  every = unwrap_or (screens_every options) 100;
   follow = flag_at (codes "follow") options;
   lints = lints_or_plain options;
 }
@@ -374,12 +415,12 @@ by_named name =
 abbrev pub by_at : List Row → Option By
 by_at options = option_map_or by_named (text_at (codes "by") options) (Some Name)
 
--- what numbers are written and when they are put in a file, by what tasks are told apart by and these options: `--series` says how many labels stand by
--- themselves
+-- what numbers are written and when they are put in a file, by how tasks are grouped and by these options. `--series` says how many labels
+-- stand by themselves
 abbrev pub metrics_by : By → List Row → MetricsOptions
 metrics_by by options = record {
   apart = record { by = by; most = number_at (codes "series") options };
-  every = number_or 10 (codes "every") options;
+  every = unwrap_or (texts_every options) 10;
   follow = flag_at (codes "follow") options;
   lints = lints_or_plain options;
 }
@@ -441,9 +482,9 @@ title_of words = title_in (subcommand_of program words)
 abbrev pub title_text : List Text → Text
 title_text words = unwrap_or (title_of words) (unwrap_or (file_of words) (codes "taskscope"))
 
--- the earlier stream that is compared, if the words name one: that of a page is its first file, if it has a second
+-- the earlier stream that is read, if the words name one. It is that of a comparison, or else the first file, of which the begin is earlier
 abbrev pub before_at : List Row → Option Text
-before_at options = option_map_or (λ later. text_at (codes "FILE") options) (later_at options) (text_at (codes "BEFORE") options)
+before_at options = option_map_or (λ before. Some before) (text_at (codes "BEFORE") options) (text_at (codes "FILE") options)
 
 abbrev pub before_in : Option (Text × List Row) → Option Text
 before_in = option_and_then (λ command. before_at command.1)
@@ -473,6 +514,21 @@ until_in = option_and_then (λ command. until_at command.1)
 abbrev pub until_of : List Text → Option Moment
 until_of words = until_in (subcommand_of program words)
 
+-- the moment so long before the end that a text says
+abbrev pub moment_before_end : Text → Option Moment
+moment_before_end text = option_map BeforeEnd (time_of text)
+
+-- the moment since which a stream is looked at, if the options name one: `--last` says how long before its end
+abbrev pub since_at : List Row → Option Moment
+since_at options = option_map_or moment_before_end (text_at (codes "last") options)
+    (option_and_then moment_of (text_at (codes "since") options))
+
+abbrev pub since_in : Option (Text × List Row) → Option Moment
+since_in = option_and_then (λ command. since_at command.1)
+
+abbrev pub since_of : List Text → Option Moment
+since_of words = since_in (subcommand_of program words)
+
 -- the words ask that a fault is explained
 abbrev pub explains_in : Option (Text × List Row) → Bool
 explains_in command = option_map_or (λ c. flag_at (codes "explain") c.1) command false
@@ -493,7 +549,58 @@ can_be_found options (BeforeEnd span) = is_some (file_at options) && not (is_som
 abbrev pub names_no_moment : List Row → Bool
 names_no_moment options = is_some (text_at (codes "until") options) && not (option_map_or (can_be_found options) (until_at options) false)
 
--- an option of a command names nothing that there is: no column of a watch, nothing that tasks are told apart by, or nothing that a view adds them up by
+-- a stream is to be looked at since a moment
+abbrev pub asks_since : List Row → Bool
+asks_since options = is_some (text_at (codes "since") options) || is_some (text_at (codes "last") options)
+
+-- one option says since when, and that moment can be found
+abbrev pub begins_somewhere : List Row → Bool
+begins_somewhere options =
+    not (is_some (text_at (codes "since") options) && is_some (text_at (codes "last") options))
+    && option_map_or (can_be_found options) (since_at options) false
+
+-- one place is viewed, or a fault is to be explained
+abbrev pub tells_more : List Row → Bool
+tells_more options = is_some (number_at (codes "place") options) || flag_at (codes "explain") options
+
+-- all places of a file are viewed, and no fault is to be explained
+abbrev pub views_places : Text → List Row → Bool
+views_places name options =
+    bytes_eq name (codes "view") && (is_some (file_at options) && (is_some (text_at (codes "by") options) && not (tells_more options)))
+
+-- what is shown can be that of a span: findings, or all places of a file, which is read twice
+abbrev pub is_of_spans : Text → List Row → Bool
+is_of_spans name options = flag_at (codes "findings") options || views_places name options
+
+-- the options of the begin of a span name none that can be shown
+abbrev pub names_no_span : Text → List Row → Bool
+names_no_span name options = asks_since options && not (begins_somewhere options && is_of_spans name options)
+
+-- a fault is to be explained where two streams are compared: it isn't
+abbrev pub explains_two : List Row → Bool
+explains_two options = is_some (later_at options) && flag_at (codes "explain") options
+
+-- an option of a time is there, and says none
+abbrev pub says_no_time : Text → Option ℕ → List Row → Bool
+says_no_time name time options = is_some (text_at name options) && not (is_some time)
+
+-- how often screens are drawn, or texts are written, by the command
+abbrev pub every_at : Text → List Row → Option ℕ
+every_at name options = if bytes_eq name (codes "watch") then screens_every options else texts_every options
+
+-- an option of a limit says no time
+abbrev pub names_no_limit : List Row → Bool
+names_no_limit options =
+    says_no_time (codes "never-yielded") (limit_at options) options
+    || (says_no_time (codes "long-poll") (long_poll options) options || says_no_time (codes "long-wait") (long_wait options) options)
+
+-- an option of a command says no time
+abbrev pub names_no_time : Text → List Row → Bool
+names_no_time name options =
+    names_no_limit options
+    || (says_no_time (codes "at-least") (least_at options) options || says_no_time (codes "every") (every_at name options) options)
+
+-- an option of a command names nothing that there is. It is no column of a watch, no way to group tasks, or nothing that a view adds up by
 abbrev pub key_names_nothing : Text → List Row → Bool
 key_names_nothing name options =
     if bytes_eq name (codes "watch") then not (is_some (column_at options))
@@ -502,9 +609,11 @@ key_names_nothing name options =
     else if bytes_eq name (codes "lint") then not (is_some (by_place_at Lint options))
     else false
 
--- or that of a moment does
+-- or that of a time does, or of a moment, of a span, or of an explanation
 abbrev pub option_names_nothing : Text → List Row → Bool
-option_names_nothing name options = names_no_moment options || key_names_nothing name options
+option_names_nothing name options =
+    names_no_time name options || (names_no_moment options
+    || (names_no_span name options || (explains_two options || key_names_nothing name options)))
 
 -- so does an option of the command that the words name
 abbrev pub names_nothing : Option (Text × List Row) → Bool

@@ -10,7 +10,8 @@ use tk_metrics::Place;
 /// The files of a system. A text is written beside the file of its path, with `.new` after its name, which then takes that file's place:
 /// who reads it never finds half a text.
 ///
-/// If a text can't be written, that is said once, with the path and the reason, until one is written again. Nothing of it is left beside the file.
+/// If a text can't be written, that is said once, with the path and the reason, until one is written again. Nothing of it is left beside
+/// the file.
 #[derive(Drop)]
 pub(crate) struct WholeFiles<'a, R, E> {
     rt: &'a R,

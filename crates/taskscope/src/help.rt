@@ -47,18 +47,18 @@ A script has one command a line, its words between single spaces:
   1 COMMAND, 2 COMMAND   in a block: the first or second thread does a wakeref, wake or release
   join                   runs the threads of the block, and waits for both
   publish MOMENT         writes a line with what is new since the line before
-  snapshot MOMENT        writes a line that tells of all
+  snapshot MOMENT        writes a line that says all
 Resources have the commands resource, radd, rsub, rset and rclose, async operations op, optask,
 opstart, opend, opclose, oadd, osub, oset and pollop: docs/FORMATS.md has their words.
 Items are numbered from 1 in the order in which they are made, each kind by itself, and so are wakers.
 A moment is a number of nanoseconds. Empty lines and lines that begin with # are skipped.
 
-A new item and a poll operation are events. Of those since the line before 1024 are held where no capacity is
-said; where there are more, `dropped` counts what was lost: publish more often, or begin with a greater capacity.
+A new item and a poll operation are events. Of those since the line before 1024 are held if no capacity is
+said; if there are more, `dropped` counts what was lost: publish more often, or begin with a greater capacity.
 
-With a retention a line says which items are gone: each was closed for so long, and told of as closed before.
-With times a line tells the histograms that are new, or others than it told last.
-With waits a line tells with each `sched` also how long the task waited in all.
+With a retention a line says which items are gone: each was closed for so long, and an earlier line showed that.
+With times a line has the histograms that are new or have changed.
+With waits a line says with each `sched` also how long the task waited in all.
 
 A script has at most 1,048,576 bytes. It stops at its first fault, and the lines before it stay.";
 
@@ -76,10 +76,10 @@ without its line end is ignored. After a fault nothing is written.
 
 With `--times` a line below a task says how many polls of it ended, how long the longest ran, and between which
 times the percentiles 50, 90 and 99 lie, in nanoseconds. A second line says the same of its waits for a poll, and
-since when it waits, if it does. Both are there as far as the stream tells of it, as that of a Rust program does.
+since when it waits, if it does. Both are there if the stream has histograms, as that of a Rust program does.
 A wall clock can't tell a long poll from one whose thread the system had put aside.
 
-With `--findings` the report ends with what is odd in place of the warnings, as `taskscope lint --findings` tells it.
+With `--findings` the report ends with what is odd in place of the warnings, as `taskscope lint --findings` shows it.
 
 With `--by place` the report adds tasks up by place: where they were spawned, as what, and by which name but for
 numbers. Each place has a line, which counts the tasks that have left, too, and one for each kind of warning there.
@@ -87,7 +87,10 @@ Resources and async operations are left out. `--place N` shows the place of that
 there. With `--times` two lines below a place say how long the polls of all its tasks ran, and how long they waited.
 Neither can stand beside `--findings` and `--long-poll`.
 
-If a stream has no histograms, `--long-poll` tells of the polls that its lines show, which ran at least as long. A
+With `--since` or `--last` the report by place has what came since then, and not what has added up before: that needs
+a FILE, which is read twice. With `--findings` they show what was odd since then.
+
+If a stream has no histograms, `--long-poll` goes by the polls that its lines show, which ran at least as long. A
 line on standard error says so.
 
 The report is written at the end of the stream: `taskscope watch` shows a stream while it comes.";
@@ -102,29 +105,30 @@ const LINT_LONG_ABOUT: &str =
 
 A task has these warnings:
   lost-waker     nobody is left who could wake it: keep a waker of it until the wake
-  self-wakes     too many wakes are its own: let what it waits for wake it
-  never-yielded  its first poll runs too long: move work that blocks to a blocking task
+  self-wakes     too many wakes are its own: let an event or a timer wake it
+  never-yielded  its first poll blocks, or loops without an await: move it to a blocking task
   long-poll      a poll of it ran as long as `--long-poll` says, or longer: let it yield, or move work that blocks
   long-wait      it waited for a poll as long as `--long-wait` says, or longer: look which task holds the thread
 
 A wall clock can't tell a long poll from one whose thread the system had put aside. If a stream has no histograms,
-`--long-poll` tells of the polls that its lines show, which ran at least as long, and a line on standard error says
+`--long-poll` goes by the polls that its lines show, which ran at least as long, and a line on standard error says
 so. Of waits only the one that lasts is known then.
 
-With `--by place` a line tells how many tasks of a place have one kind of warning, and which of them comes first. It
+With `--by place` a line says how many tasks of a place have one kind of warning, and which of them comes first. It
 can't stand beside `--long-poll`. Each finding is of one place already, so `--findings` writes the same with it.
 
 A waker, a task or a poll that a program lets go without its last call makes no entry, and counts as live: such a
 waker hides a lost-waker, and such a task never closes.
 
-With `--findings` all lines of the stream are judged, and what is odd is told in place of warnings, worst first:
+With `--findings` all lines of the stream are judged, and what is odd is shown in place of warnings, worst first:
 which tasks held up the others and for how long, at least. The words of each line stand in docs/FORMATS.md, and
 docs/FINDINGS.md says what each finding means. `--long-poll` then says from when on a poll is long, and a wait for
-it: 100 milliseconds if it isn't there. `--long-wait` says nothing to findings. There are these kinds:";
+it: 100 milliseconds if it isn't there. `--long-wait` says nothing to findings. With `--since` or `--last` what was odd
+since then is shown, as a client finds it that reads from then on. There are these kinds:";
 
 const LINT_END: &str =
     "A last line of the stream without its line end is ignored. After a fault nothing is written. The status is 3
-where there are warnings, or findings with `--findings`.";
+if there are warnings, or findings with `--findings`.";
 
 /// What the help of `lint` says at length, with the kinds of findings and what to do about each.
 pub(crate) fn lint_long_about(alloc: Global) -> Result<String, AllocError> {
@@ -145,7 +149,7 @@ the warnings, which `taskscope lint --help` explains, and a task that holds up t
 a row with its course of time: when it was polled, when it waited, and its wakes. Resources with their
 operations come last. At most 200 tasks are drawn, the odd ones first.
 
-The title of the page is the path of the file, or what `--title` says: so two pages in two tabs can be told apart.
+The title of the page is the path of the file, or what `--title` says: so you can tell two pages in two tabs apart.
 
 With a second file the page shows what changed from the first stream to the second: which places are worse, better,
 new or gone, and which findings are. `taskscope compare --help` says what a change is. The status stays 0.
@@ -162,7 +166,7 @@ pub(crate) const WATCH_LONG_ABOUT: &str =
 
   service | taskscope watch
 
-A screen tells how many tasks are in each state and what is odd about them, worst first (`taskscope lint --help`
+A screen says how many tasks are in each state and what is odd about them, worst first (`taskscope lint --help`
 explains the findings), and shows the open tasks of most in a column, with where each was spawned.
 With `--by place` it shows what the tasks of each place came to, those that left among them: those that one line of
 the source spawns under one name, but for numbers. docs/FORMATS.md explains the lines.
@@ -206,12 +210,12 @@ of their own. All later ones are added up under the name `(others)`, and `tasksc
 tasks these are.
 While one task holds the thread no count of polls moves. Gauges say how long the longest poll and the longest wait
 have lasted, and counters for how long tasks waited, and for whom.
-Findings tell who holds up whom, with the limits that `taskscope lint --findings` has where none is set.
+Findings say who holds up whom, with the limits that `taskscope lint --findings` has if you set none.
 `taskscope lint --help` explains the warnings, docs/FORMATS.md the families, and docs/alerts.yml has alerts to copy.
 
 With `--to` the numbers are kept in a file while the stream comes, and nothing is written to standard output. The
 file is written anew once lines came, and at the end of the stream in any case: beside the old one, with `.new`
-after its name, which then takes its place. So who reads it never finds half of it. Where it can't be written, as
+after its name, which then takes its place. So who reads it never finds half of it. If it can't be written, as
 on a full disk, the old one stays, that is said once, and it is tried again when it is time.
 
   service | taskscope metrics --to /var/lib/prometheus/node-exporter/tasks.prom
@@ -228,8 +232,8 @@ pub(crate) const COMPARE_LONG_ABOUT: &str =
   taskscope compare main.stream new.stream
 
 Both streams are read to their ends. Tasks are added up by place: where they were spawned, as what, and by which name
-but for numbers. The first line says how many places and findings changed. Then a line tells of each finding that is
-new, gone or still there, and of each place that is worse, new, better or gone: how many polls of its tasks started in
+but for numbers. The first line says how many places and findings changed. Then comes a line for each finding that is
+new, gone or still there, and for each place that is worse, new, better or gone: how many polls of its tasks started in
 a second, how long they ran and how long they waited, before and after, and as a ratio. Below a place stand the
 histograms of its polls and waits, if a stream has them. docs/formats/comparison.md explains the lines.
 
@@ -248,7 +252,8 @@ pub(crate) const AFTER_ARGUMENT_HELP: &str =
 pub(crate) const MORE_THAN_HELP: &str =
     "Take for a change what is more or less by more than so many percent";
 
-pub(crate) const AT_LEAST_HELP: &str = "And by so many milliseconds of each second, at least";
+pub(crate) const AT_LEAST_HELP: &str =
+    "And by so much of each second at least, as 500us or 10ms: 1ms if you say nothing; a number counts milliseconds";
 
 pub(crate) const TITLE_HELP: &str = "Give the page this title, in place of the path of its file";
 
@@ -257,6 +262,11 @@ pub(crate) const LATER_HELP: &str = "Draw what changed from FILE to this later s
 pub(crate) const UNTIL_HELP: &str =
     "Leave out what comes after this moment: nanoseconds, or a time before the end of FILE, as 12.5s";
 
+pub(crate) const SINCE_HELP: &str =
+    "Look at what came since this moment: nanoseconds, or a time before the end of FILE, as 12.5s";
+
+pub(crate) const LAST_HELP: &str = "Look at so much time before the end of FILE, as 10s or 1m 30s";
+
 pub(crate) const DEMO_ABOUT: &str =
     "Runs three small tasks and writes their report to standard output";
 
@@ -264,7 +274,7 @@ pub(crate) const DEMO_LONG_ABOUT: &str =
     "Runs three small tasks and writes their report to standard output.
 
 `yield` wakes itself three times and is ready, `lose` drops the only waker that it had, and `hold` keeps its
-own, which nobody calls. They run on an executor over live ledgers, by a clock that tells 1000, 2000 and so on,
+own, which nobody calls. They run on an executor over live ledgers, by a clock that gives 1000, 2000 and so on,
 until none is scheduled. An aggregator then reads them, and the report shows what it found.
 crates/tk_app/src/demonstration.rt has the code. Nothing is read from standard input.";
 
@@ -272,17 +282,19 @@ pub(crate) const PERCENT_HELP: &str = "Warn if more of a hundred wakes are a tas
 
 pub(crate) const LIMIT_HELP: &str = "Warn if a first poll has run for so many nanoseconds";
 
+pub(crate) const NEVER_YIELDED_HELP: &str = "Or for this time, as 100ms or 2s";
+
 pub(crate) const LONG_POLL_HELP: &str =
-    "Warn of a poll that ran for so many milliseconds, from 1 on";
+    "Warn of a poll that ran so long, as 100ms or 2s; a number counts milliseconds";
 
 pub(crate) const FINDINGS_HELP: &str =
-    "Tell who holds up whom and what else is odd, in place of warnings";
+    "Say who holds up whom and what else is odd, in place of warnings";
 
 pub(crate) const BY_PLACE_HELP: &str =
     "Add tasks up by `place`: where they were spawned, as what, and by which name but for numbers";
 
 pub(crate) const LONG_WAIT_HELP: &str =
-    "Warn of a wait for a poll that took so many milliseconds, from 1 on";
+    "Warn of a wait for a poll that took so long, as 100ms or 2s; a number counts milliseconds";
 
 pub(crate) const TIMES_HELP: &str =
     "Show below a task or a place how long its polls ran and it waited, if the stream has histograms";
@@ -301,7 +313,8 @@ pub(crate) const FILTER_HELP: &str =
 
 pub(crate) const RESOURCES_HELP: &str = "Show resources and async operations too";
 
-pub(crate) const EVERY_HELP: &str = "Draw at most one screen in so many milliseconds, 0 to 3600000";
+pub(crate) const EVERY_HELP: &str =
+    "Draw at most one screen in so long, as 500ms or 2s: 100ms if you say nothing, and up to an hour; a number counts milliseconds";
 
 pub(crate) const FOLLOW_HELP: &str = "Keep reading as the file grows, like `tail -F`";
 
@@ -322,7 +335,7 @@ pub(crate) const SERIES_HELP: &str =
 pub(crate) const TO_HELP: &str = "Keep the numbers in this file, and write none to standard output";
 
 pub(crate) const EVERY_SECONDS_HELP: &str =
-    "Write that file anew at most once in so many seconds, 0 to 86400";
+    "Write that file anew at most once in so long, as 30s or 1m: 10s if you say nothing, and up to a day; a number counts seconds";
 
 pub(crate) const FOLLOW_INTO_HELP: &str =
     "Keep reading as the file grows, like `tail -F`, if numbers are kept in a file";

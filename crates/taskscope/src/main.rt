@@ -1,15 +1,29 @@
 //! The program: its words, its streams and its status.
 #![tactic(auto)]
 
+mod asked;
 mod command_line;
+mod commands;
+mod compares;
 mod files;
 mod help;
+mod mistakes;
 mod moments;
+mod moments_of_file;
+mod names;
 mod notes;
+mod options;
 mod outputs;
 mod program;
+mod reports;
+mod sites;
 mod sources;
+mod spans;
+mod statuses;
 mod terminal;
+mod times;
+mod views;
+mod watches;
 
 use files::WholeFiles;
 use outputs::{Faults, Output};

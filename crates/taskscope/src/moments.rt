@@ -1,6 +1,7 @@
-//! Moments of a stream and spans of time, as words say them.
+//! Moments of a stream, and times, as words say them.
 ghost use Rattle.std.specs.Prelude.{◌≡◌};
 ghost use Rattle.taskscope.specs.Moments as spec;
+ghost use Rattle.taskscope.specs.Requests as requests;
 
 use jiff_fmt::friendly::parse_unsigned_duration;
 
@@ -13,8 +14,8 @@ pub(crate) enum Moment {
     BeforeEnd(u64),
 }
 
-// The number that a text writes.
-fn number_of(text: &str) -> Option<u64>
+/// The number that a text writes.
+pub(crate) fn number_of(text: &str) -> Option<u64>
     ensures { result ≡ spec.number_of text.now }
 {
     match text.parse::<u64>() {
@@ -23,8 +24,8 @@ fn number_of(text: &str) -> Option<u64>
     }
 }
 
-// A span of time that a text says, in nanoseconds: as `100ms`, `12.5s` or `1m 30s`. `None`: it says none, or one of 2^64 or more.
-fn time_of(text: &str) -> Option<u64>
+/// A span of time that a text says, in nanoseconds: as `100ms`, `12.5s` or `1m 30s`. `None`: it says none, or one of 2^64 or more.
+pub(crate) fn time_of(text: &str) -> Option<u64>
     ensures { result ≡ spec.time_of text.now }
 {
     match parse_unsigned_duration(text.as_bytes()) {
@@ -41,6 +42,13 @@ pub(crate) fn moment_of(text: &str) -> Option<Moment>
         Some(number) => Some(Moment::At(number)),
         None => Some(Moment::BeforeEnd(time_of(text)?)),
     }
+}
+
+/// The moment so long before the end of a stream that a text says, as `12.5s`.
+pub(crate) fn moment_before_end(text: &str) -> Option<Moment>
+    ensures { result ≡ requests.moment_before_end text.now }
+{
+    Some(Moment::BeforeEnd(time_of(text)?))
 }
 
 /// The moment so long before another one. Before the first there is none.

@@ -1,7 +1,7 @@
 //! Views of a stream that tell what is odd about it.
 ghost use Rattle.std.specs.Prelude.{◌≡◌, [], map, IfOk, IfErr};
 ghost use Rattle.tk_odd.specs.Findings.{told};
-ghost use Rattle.tk_odd.specs.Inner.{Follows};
+ghost use Rattle.tk_odd.specs.Inner.{FollowsSpan};
 ghost use Rattle.tk_reading.specs.Taken.{first};
 ghost use Rattle.tk_report.specs.Views.{IsOfWriter};
 ghost use Rattle.tk_found.specs.Views as spec;
@@ -11,7 +11,7 @@ use std::alloc::{AllocError, Global};
 use std::io::{Read, Write};
 use tk_client::{Client, Lints};
 use tk_fault::AppFault;
-use tk_odd::{Diagnosis, Found, Limits};
+use tk_odd::{Found, Limits, Span};
 use tk_reading::{MAX_LINE, read_stream};
 use tk_report::{View, timed_report_with};
 use tk_stream::send;
@@ -46,10 +46,10 @@ fn text_of(
     Ok(text)
 }
 
-// What `view_findings` does by a new client and a new diagnosis.
+// What `view_findings` does by a new client and a new span.
 fn view_by<R: Read, W: Write>(
     client: &mut Client,
-    diagnosis: &mut Diagnosis,
+    span: &mut Span,
     alloc: Global,
     reader: &mut R,
     writer: &mut W,
@@ -57,13 +57,16 @@ fn view_by<R: Read, W: Write>(
     times: bool,
 ) -> Result<u64, AppFault>
     requires client { client.old ≡ first }
-    requires diagnosis { Follows [] diagnosis.old }
-    ensures views { spec.ViewsFindings view diagnosis.old.limits times (R.remaining reader.old) (R.remaining reader.new) result
+    requires span { FollowsSpan [] span.old }
+    ensures views { spec.ViewsFindings view span.old.diagnosis.limits span.old.since times (R.remaining reader.old) (R.remaining reader.new) result
         (W.contents writer.old) (W.contents writer.new) }
     ensures unwritten { IfErr result (λ fault. (IsOfWriter fault → ⊥) → writer.new ≡ writer.old) }
 {
-    read_stream(client, diagnosis, reader)?;
-    let Ok(list) = diagnosis.findings_with_victims(alloc, client.tables()) else {
+    read_stream(client, span, reader)?;
+    let found = span
+        .diagnosis()
+        .findings_with_victims(alloc, client.tables());
+    let Ok(list) = found else {
         return Err(AppFault::Memory);
     };
     let Ok(text) = text_of(alloc, view, times, client, &list) else {
@@ -78,6 +81,10 @@ fn view_by<R: Read, W: Write>(
 /// Reads a stream to its end, writes what is odd about it, and answers how many findings there are: the report of its tables with a line for each
 /// finding in place of the warnings, or these lines alone. `docs/FORMATS.md` has their words.
 ///
+/// With a moment in nanoseconds the findings are those of the span since then: from the last line at or before it on. A client that attached then
+/// finds the same. It sees a poll that is open then from its begin on, and all wakes of a task. If no line is so early, or there is no moment,
+/// the span is the whole stream. The report above the findings always shows the tables and histograms at the stream's end.
+///
 /// A last line without its line end is ignored. The text is made whole before its first byte is written.
 ///
 /// - `Memory`: there was no memory for the tables, the diagnosis or the text. Nothing was written.
@@ -90,26 +97,19 @@ pub fn view_findings<R: Read, W: Write>(
     writer: &mut W,
     view: View,
     limits: Limits,
+    since: Option<u64>,
     times: bool,
 ) -> Result<u64, AppFault>
-    ensures views { spec.ViewsFindings view limits times (R.remaining reader.old) (R.remaining reader.new) result
+    ensures views { spec.ViewsFindings view limits since times (R.remaining reader.old) (R.remaining reader.new) result
         (W.contents writer.old) (W.contents writer.new) }
     // Only a writer's fault comes once something was written.
     ensures unwritten { IfErr result (λ fault. (IsOfWriter fault → ⊥) → writer.new ≡ writer.old) }
 {
-    let Ok(mut diagnosis) = Diagnosis::new(alloc, limits) else {
+    let Ok(mut span) = Span::new(alloc, limits, since) else {
         return Err(AppFault::Memory);
     };
     match Client::new(alloc, MAX_LINE) {
-        Ok(mut client) => view_by(
-            &mut client,
-            &mut diagnosis,
-            alloc,
-            reader,
-            writer,
-            view,
-            times,
-        ),
+        Ok(mut client) => view_by(&mut client, &mut span, alloc, reader, writer, view, times),
         Err(_) => Err(AppFault::Memory),
     }
 }

@@ -8,17 +8,17 @@ use Rattle.tk_screen.specs.Screens.{LineView}
 use Rattle.tk_frame.specs.Findings.{any_now, numbered, place_words}
 
 -- the lines of the first findings, and of the one after them
-pub numbered_more : (lines : ℕ → Placed → List LineView) (n : ℕ) (xs : List Found) (i : ℕ) (x : Found) (m : ℕ) → i < length xs → x ≡ get_or xs i x → m ≡ n + i
-    → numbered lines n (map placed (take (i + 1) xs)) ≡ numbered lines n (map placed (take i xs)) ++ lines m (placed x)
-numbered_more lines n xs i x m h at is = rw add-one (by n xs i m h at is)
+pub numbered_more : {X : Type 0} (of : Found → X) (lines : ℕ → X → List LineView) (n : ℕ) (xs : List Found) (i : ℕ) (x : Found) (m : ℕ) → i < length xs → x ≡ get_or xs i x → m ≡ n + i
+    → numbered lines n (map of (take (i + 1) xs)) ≡ numbered lines n (map of (take i xs)) ++ lines m (of x)
+numbered_more of lines n xs i x m h at is = rw add-one (by n xs i m h at is)
   where
     by : (k : ℕ) (ys : List Found) (j m : ℕ) → j < length ys → x ≡ get_or ys j x → m ≡ k + j
-        → numbered lines k (map placed (take (suc j) ys)) ≡ numbered lines k (map placed (take j ys)) ++ lines m (placed x)
+        → numbered lines k (map of (take (suc j) ys)) ≡ numbered lines k (map of (take j ys)) ++ lines m (of x)
     by k [] j m g e same = absurd (omega (arith, g))
-    by k (y ∷ ys) zero m g e same = append-nil (lines k (placed y)) ∙ ap₂ (λ (l : ℕ) (z : Found). lines l (placed z)) (omega (arith, same)) (sym e)
+    by k (y ∷ ys) zero m g e same = append-nil (lines k (of y)) ∙ ap₂ (λ (l : ℕ) (z : Found). lines l (of z)) (omega (arith, same)) (sym e)
     by k (y ∷ ys) (suc j) m g e same =
-        ap (λ (zs : List LineView). lines k (placed y) ++ zs) (by (k + 1) ys j m (omega (arith, g)) e (omega (arith, same)))
-        ∙ sym (append_assoc (lines k (placed y)) (numbered lines (k + 1) (map placed (take j ys))) (lines m (placed x)))
+        ap (λ (zs : List LineView). lines k (of y) ++ zs) (by (k + 1) ys j m (omega (arith, g)) e (omega (arith, same)))
+        ∙ sym (append_assoc (lines k (of y)) (numbered lines (k + 1) (map of (take j ys))) (lines m (of x)))
 
 -- the lines of the first items, and of the one after them
 pub numbered_next : {X : Type 0} (lines : ℕ → X → List LineView) (n : ℕ) (xs : List X) (i : ℕ) (none : X) (m : ℕ) → i < length xs → m ≡ n + i

@@ -1,26 +1,21 @@
 -- All that is told of one task.
-use Rattle.std.specs.Prelude.{◌-◌, ◌==◌, ◌&&◌, ℕ, Bool, false, is_none, if◌then◌else◌, List, [], ◌∷◌, ◌++◌, flat_map, codes, decimal, Option, Some, None}
+use Rattle.std.specs.Prelude.{ℕ, List, [], ◌∷◌, ◌++◌, codes, decimal, Some}
 use Rattle.std.specs.Option.{option_map_or}
 use Rattle.tk_ids.specs.Ids.{id_text}
 use Rattle.tk_core.specs.declared.task.row.TaskRow.{TaskRow}
-use Rattle.tk_stream.specs.declared.tables.op.Op.{Op}
 use Rattle.tk_stream.specs.declared.tables.task.Task.{Task}
 use Rattle.tk_stream.specs.Tables.{TablesView, task_with}
 use Rattle.tk_stream.specs.Spelling.{kind_text}
 use Rattle.tk_stream.specs.Times.{TaskTimes}
-use Rattle.tk_report.specs.Report.{op_state, task_state}
+use Rattle.tk_report.specs.Report.{task_state}
 use Rattle.tk_screen.specs.Screens.{LineView}
 use Rattle.tk_screen.specs.Texts.{duration_text, share_text}
 use Rattle.tk_core.specs.Lasting.{busy_until, sched_until, waits_for}
 use Rattle.tk_frame.specs.Findings.{OddView, owns_part}
 use Rattle.tk_frame.specs.Histograms.{times_part}
-use Rattle.tk_frame.specs.Lines.{field, heading, location_text, plain}
+use Rattle.tk_frame.specs.Lines.{ago_text, field, heading, location_text, plain}
 use Rattle.tk_frame.specs.PlaceLines.{known_text}
-
--- how long ago a moment was, where there was one
-abbrev pub ago_text : ℕ → Option ℕ → List ℕ
-ago_text now None = codes "-"
-ago_text now (Some moment) = duration_text (now - moment) ++ codes " ago"
+use Rattle.tk_frame.specs.Polled.{ops_part}
 
 -- what was told of it once, and its state
 abbrev pub info_part : Task → List LineView
@@ -59,33 +54,10 @@ life_part now x = field (codes "clones") (decimal x.clones)
 abbrev pub row_part : ℕ → TaskRow → List LineView
 row_part now x = polls_part now x ++ (wakes_part now x ++ life_part now x)
 
--- ---- what it waits for
-
--- a task polls an operation that is open
-abbrev pub is_polled_by : ℕ → Op → Bool
-is_polled_by id o = is_none o.row.dropped && option_map_or (λ n. n == id) o.row.task false
-
--- of which resource
-abbrev pub resource_words : ℕ → List ℕ
-resource_words id = codes " on resource " ++ (id_text id ++ codes ", ")
-
--- an operation: the call that made it, its resource, its state, and how long ago it was first polled
-abbrev pub op_words : ℕ → Op → List ℕ
-op_words now o =
-    o.info.source ++ (resource_words o.info.resource ++ (op_state o.row ++ (codes ", first polled " ++ ago_text now o.row.first_poll)))
-
--- the same, if this task polls it
-abbrev pub own_op : ℕ → ℕ → Op → List LineView
-own_op now id o = if is_polled_by id o then field (codes "operation") (op_words now o) ∷ [] else []
-
--- the operations that a task polls, in table order
-abbrev pub ops_part : TablesView → ℕ → List LineView
-ops_part tables id = flat_map (own_op tables.now id) tables.ops
-
 -- ---- all
 
--- all that is told of a task: what was told of it once, the operations that it polls, the findings about its place with what to do, its histograms, and
--- its statistics
+-- all that is told of a task: what was told of it once, the operations that it polls with their resources, the findings about its place with what to do and
+-- who waited, its histograms, and its statistics
 abbrev pub details_of : TablesView → List TaskTimes → OddView → Task → List LineView
 details_of tables times odd t =
     info_part t ++ (ops_part tables t.info.id ++ (owns_part tables.tasks t odd ++ (times_part times t.info.id ++ row_part tables.now t.row)))

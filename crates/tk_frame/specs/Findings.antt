@@ -4,7 +4,7 @@ use Rattle.std.specs.List.{list_any}
 use Rattle.std.specs.Option.{option_and_then}
 use Rattle.std.specs.Str.{bytes_eq}
 use Rattle.tk_ids.specs.Ids.{id_text}
-use Rattle.tk_odd.specs.Findings.{Placed}
+use Rattle.tk_odd.specs.Findings.{Placed, Told}
 use Rattle.tk_odd.specs.Places.{place_of}
 use Rattle.tk_odd.specs.Words.{advice_of, name_of, said_of, shape_of}
 use Rattle.tk_odd.specs.declared.finding.Finding.{Finding}
@@ -25,14 +25,15 @@ use Rattle.tk_frame.specs.Waiting.{waiting_text}
 use Rattle.tk_odd.specs.Waiting.{waiting_of}
 use Rattle.tk_odd.specs.declared.waiting.Waiting.{Waiting}
 
--- what is told of what is odd: the findings, worst first; the places, in their order; what these came to in the last while, where lines reach back so far;
--- how many tasks waited at each of the last lines; whether the service was started again; how long the time is from the first line to the last, where one came; and from when on a poll is a long one
+-- what is told of what is odd: the findings, worst first, and the same with who waited longest for each; the places, in their order; what these came to in the last while, where lines reach back so far;
+-- how many tasks waited at each of the last lines; the moment of the first line since the service was started again, if it was; how long the time is from the first line to the last, where one came; and from when on a poll is a long one
 pub record OddView : Type 0 where
   pub findings : List Placed
+  pub told : List Told
   pub places : List PlaceRow
   pub recent : Option RecentView
   pub waits : List ℕ
-  pub again : Bool
+  pub again : Option ℕ
   pub span : Option ℕ
   pub long : ℕ
 
@@ -198,18 +199,27 @@ advice_text kind = codes "  " ++ advice_of kind
 abbrev pub advice_line : OddKind → LineView
 advice_line kind = plain (advice_text kind)
 
--- the line of a finding, and what to do
-abbrev pub about_lines : List Task → ℕ → Placed → List LineView
-about_lines tasks n x = finding_line tasks n x ∷ advice_line x.1.kind ∷ []
+-- who waited longest, at least so long
+abbrev pub whom_text : List ℕ → ℕ → List ℕ
+whom_text place time = codes "  waited longest for it, at least " ++ (duration_text time ++ (codes ": " ++ as_text place))
+
+-- the line that says it, if it is known
+abbrev pub whom_part : Option (List ℕ × ℕ) → List LineView
+whom_part None = []
+whom_part (Some (place, time)) = plain (whom_text place time) ∷ []
+
+-- the line of a finding, what to do, and who waited longest for it
+abbrev pub about_lines : List Task → ℕ → Told → List LineView
+about_lines tasks n (x, whom) = finding_line tasks n x ∷ advice_line x.1.kind ∷ whom_part whom
 
 -- the same, where it is about this place
-abbrev pub own_lines : List Task → List ℕ → ℕ → Placed → List LineView
-own_lines tasks place n x = if bytes_eq x.0 place then about_lines tasks n x else []
+abbrev pub own_lines : List Task → List ℕ → ℕ → Told → List LineView
+own_lines tasks place n x = if bytes_eq x.0.0 place then about_lines tasks n x else []
 
 -- those about this place, each with its number in the list
-abbrev pub own_part : List Task → List ℕ → List Placed → List LineView
+abbrev pub own_part : List Task → List ℕ → List Told → List LineView
 own_part tasks place list = numbered (own_lines tasks place) 1 list
 
 -- those about a task's place
 abbrev pub owns_part : List Task → Task → OddView → List LineView
-owns_part tasks t odd = own_part tasks (place_of t.info) odd.findings
+owns_part tasks t odd = own_part tasks (place_of t.info) odd.told

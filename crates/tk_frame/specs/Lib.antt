@@ -26,6 +26,8 @@ pub mod Frames
 pub mod Walks
 -- What is told of the histograms of one task
 pub mod Histograms
+-- The operations that a task polls, and what they belong to
+pub mod Polled
 -- All that is told of one task
 pub mod Details
 -- What keys ask a screen for

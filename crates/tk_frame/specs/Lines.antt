@@ -1,5 +1,5 @@
 -- The lines that tell of tasks, and of resources and async operations.
-use Rattle.std.specs.Prelude.{◌==◌, ◌&&◌, ◌-◌, ℕ, Bool, List, [], ◌++◌, drop, length, codes, decimal, if◌then◌else◌}
+use Rattle.std.specs.Prelude.{◌==◌, ◌&&◌, ◌-◌, ℕ, List, [], ◌++◌, drop, length, codes, decimal, Option, Some, None, if◌then◌else◌}
 use Rattle.std.specs.Str.{is_utf8}
 use Rattle.tk_ids.specs.Ids.{id_text}
 use Rattle.tk_ids.specs.declared.info.Dropped.{Dropped}
@@ -56,6 +56,15 @@ warned text = record { style = styles.Warning; text = text }
 abbrev pub field : List ℕ → List ℕ → LineView
 field label value = plain (word 12 label ++ value)
 
+-- how long ago a moment was
+abbrev pub gone_text : ℕ → List ℕ
+gone_text nanos = duration_text nanos ++ codes " ago"
+
+-- the same, where there is one
+abbrev pub ago_text : ℕ → Option ℕ → List ℕ
+ago_text now None = codes "-"
+ago_text now (Some moment) = gone_text (now - moment)
+
 -- ---- the first line
 
 -- how many tasks there are, and how many in each state
@@ -70,14 +79,15 @@ lost_text d =
     if (d.tasks == 0) && ((d.resources == 0) && (d.ops == 0)) then [] else
     codes "  lost events of " ++ (decimal d.tasks ++ (codes " tasks, " ++ (decimal d.resources ++ (codes " resources, " ++ (decimal d.ops ++ codes " operations")))))
 
--- that the service was started again, where it was
-abbrev pub again_word : Bool → List ℕ
-again_word again = if again then codes ", started again" else []
+-- how long ago the service was started again, if it was: so long ago is its first line since
+abbrev pub again_text : ℕ → Option ℕ → List ℕ
+again_text now None = []
+again_text now (Some moment) = codes ", started again " ++ gone_text (now - moment)
 
--- the moment, whether the service was started again, the tasks by their states, how many findings there are, and what was lost
-abbrev pub head_text : TablesView → Bool → States → ℕ → List ℕ
+-- the moment, how long ago the service was started again, the tasks by their states, how many findings there are, and what was lost
+abbrev pub head_text : TablesView → Option ℕ → States → ℕ → List ℕ
 head_text tables again states findings =
-    codes "now " ++ (duration_text tables.now ++ (again_word again ++ (states_text (length tables.tasks) states
+    codes "now " ++ (duration_text tables.now ++ (again_text tables.now again ++ (states_text (length tables.tasks) states
     ++ ((codes "  findings " ++ decimal findings) ++ lost_text tables.dropped))))
 
 -- ---- tasks

@@ -24,7 +24,7 @@ tasks_at tables site = heading task_heading ∷ flat_map (task_if tables.now sit
 
 -- what its tasks came to, the findings about it, each with what to do, and its open tasks
 abbrev pub place_part : TablesView → OddView → PlaceRow → List LineView
-place_part tables odd p = heading place_heading ∷ place_line false p ∷ (own_part tables.tasks p.0 odd.findings ++ tasks_at tables p.0)
+place_part tables odd p = heading place_heading ∷ place_line false p ∷ (own_part tables.tasks p.0 odd.told ++ tasks_at tables p.0)
 
 -- the same, where it has this number
 abbrev pub part_if : ℕ → TablesView → OddView → PlaceRow → List LineView

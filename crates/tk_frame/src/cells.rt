@@ -114,3 +114,21 @@ pub(crate) fn put_location(out: &mut String, location: &Location) -> Result<(), 
     let Location { file, line, column } = location;
     write!(out, "{file}:{line}:{column}")
 }
+
+/// Puts how long ago something was.
+pub(crate) fn put_gone(out: &mut String, nanos: u64) -> Result<(), AllocError>
+    ensures { OnOk result (Puts (string_bytes out.old) (string_bytes out.new) (spec.gone_text nanos)) }
+{
+    put_duration(out, nanos)?;
+    out.push_str(" ago")
+}
+
+/// Puts how long ago a moment was, if there is one.
+pub(crate) fn put_ago(out: &mut String, now: u64, moment: Option<u64>) -> Result<(), AllocError>
+    ensures { OnOk result (Puts (string_bytes out.old) (string_bytes out.new) (spec.ago_text now moment)) }
+{
+    match moment {
+        Some(moment) => put_gone(out, now.saturating_sub(moment)),
+        None => out.push_str("-"),
+    }
+}

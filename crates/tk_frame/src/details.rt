@@ -1,25 +1,25 @@
 //! All that is told of one task.
-ghost use Rattle.std.specs.Prelude.{◌≡◌, ◌==◌, ◌++◌, ◌∷◌, [], codes, decimal, false, slice_get, IfOk, OnOk, string_bytes};
-ghost use Rattle.std.specs.Option.{option_map_or};
+ghost use Rattle.std.specs.Prelude.{◌≡◌, ◌++◌, ◌∷◌, [], codes, decimal, IfOk, OnOk, string_bytes};
 ghost use Rattle.tk_ids.specs.Ids.{id_text};
 ghost use Rattle.tk_screen.specs.Texts.{Puts, duration_text, share_text};
 ghost use Rattle.tk_frame.specs.Details as spec;
 ghost use Rattle.tk_frame.specs.Lines as texts;
 ghost use Rattle.tk_frame.specs.PlaceLines.{known_text};
 
-use crate::cells::{put_location, put_text, put_word};
+use crate::cells::{put_ago, put_location, put_word};
 use crate::histograms::push_times;
 use crate::odd::Odd;
 use crate::odd_lines::push_owns;
 use crate::place_lines::put_known;
+use crate::polled::push_ops;
 use std::alloc::{AllocError, Global};
 use std::fmt::Write;
 use tk_client::Times;
 use tk_core::TaskRow;
-use tk_ids::{Location, ResourceId, TaskId};
-use tk_report::{kind_word, op_state, task_state};
+use tk_ids::{Location, TaskId};
+use tk_report::{kind_word, task_state};
 use tk_screen::{Line, Style, put_duration, put_share};
-use tk_stream::{Op, Tables, Task};
+use tk_stream::{Tables, Task};
 
 // How wide what a line tells is.
 const WIDTH: usize = 12;
@@ -119,22 +119,6 @@ fn push_location(
     Ok(())
 }
 
-fn put_gone(out: &mut String, nanos: u64) -> Result<(), AllocError>
-    ensures { OnOk result (Puts (string_bytes out.old) (string_bytes out.new) (duration_text nanos ++ codes " ago")) }
-{
-    put_duration(out, nanos)?;
-    out.push_str(" ago")
-}
-
-fn put_ago(out: &mut String, now: u64, moment: Option<u64>) -> Result<(), AllocError>
-    ensures { OnOk result (Puts (string_bytes out.old) (string_bytes out.new) (spec.ago_text now moment)) }
-{
-    match moment {
-        Some(moment) => put_gone(out, now.saturating_sub(moment)),
-        None => out.push_str("-"),
-    }
-}
-
 fn push_ago(
     lines: &mut Vec<Line>,
     alloc: Global,
@@ -142,7 +126,7 @@ fn push_ago(
     now: u64,
     moment: Option<u64>,
 ) -> Result<(), AllocError>
-    ensures { OnOk result (Puts lines.old.items lines.new.items (texts.field label.now (spec.ago_text now moment) ∷ [])) }
+    ensures { OnOk result (Puts lines.old.items lines.new.items (texts.field label.now (texts.ago_text now moment) ∷ [])) }
 {
     let mut text = label_text(alloc, label)?;
     put_ago(&mut text, now, moment)?;
@@ -230,96 +214,6 @@ fn push_row(lines: &mut Vec<Line>, alloc: Global, now: u64, row: &TaskRow) -> Re
     Ok(())
 }
 
-// ---- what it waits for
-
-fn is_of(task: Option<TaskId>, id: TaskId) -> bool
-    ensures { result ≡ option_map_or (λ n. n == id) task false }
-{
-    match task {
-        Some(task) => task.value() == id.value(),
-        None => false,
-    }
-}
-
-// Whether a task polls an operation that is open.
-fn is_polled_by(op: &Op, id: TaskId) -> bool
-    ensures { result ≡ spec.is_polled_by id op.now }
-{
-    op.row.dropped.is_none() && is_of(op.row.task, id)
-}
-
-fn put_resource(out: &mut String, id: ResourceId) -> Result<(), AllocError>
-    ensures { OnOk result (Puts (string_bytes out.old) (string_bytes out.new) (spec.resource_words id)) }
-{
-    write!(out, " on resource {id}, ")
-}
-
-fn put_op(out: &mut String, op: &Op, now: u64) -> Result<(), AllocError>
-    ensures { OnOk result (Puts (string_bytes out.old) (string_bytes out.new) (spec.op_words now op.now)) }
-{
-    put_text(out, op.info.source.as_str())?;
-    put_resource(out, op.info.resource)?;
-    put_text(out, op_state(&op.row))?;
-    put_text(out, ", first polled ")?;
-    put_ago(out, now, op.row.first_poll)?;
-    Ok(())
-}
-
-fn push_op(lines: &mut Vec<Line>, alloc: Global, op: &Op, now: u64) -> Result<(), AllocError>
-    ensures { OnOk result (Puts lines.old.items lines.new.items (texts.field (codes "operation") (spec.op_words now op.now) ∷ [])) }
-{
-    let mut text = label_text(alloc, "operation")?;
-    put_op(&mut text, op, now)?;
-    lines.push(Line::new(Style::Plain, text))?;
-    Ok(())
-}
-
-fn push_op_if(
-    lines: &mut Vec<Line>,
-    alloc: Global,
-    op: &Op,
-    now: u64,
-    id: TaskId,
-) -> Result<(), AllocError>
-    ensures { OnOk result (Puts lines.old.items lines.new.items (spec.own_op now id op.now)) }
-{
-    if is_polled_by(op, id) {
-        push_op(lines, alloc, op, now)
-    } else {
-        Ok(())
-    }
-}
-
-fn push_op_at(
-    lines: &mut Vec<Line>,
-    alloc: Global,
-    tables: &Tables,
-    id: TaskId,
-    place: usize,
-) -> Result<(), AllocError>
-    ensures { OnOk result (Puts lines.old.items lines.new.items (option_map_or (spec.own_op tables.now.now id) (slice_get tables.now.ops place) [])) }
-{
-    match tables.op_at(place) {
-        Some(op) => push_op_if(lines, alloc, op, tables.now(), id),
-        None => Ok(()),
-    }
-}
-
-// The operations that a task polls.
-fn push_ops(
-    lines: &mut Vec<Line>,
-    alloc: Global,
-    tables: &Tables,
-    id: TaskId,
-) -> Result<(), AllocError>
-    ensures { OnOk result (Puts lines.old.items lines.new.items (spec.ops_part tables.now id)) }
-{
-    for place in 0..tables.op_count() {
-        push_op_at(lines, alloc, tables, id, place)?;
-    }
-    Ok(())
-}
-
 // ---- all
 
 fn push_task(
@@ -357,8 +251,8 @@ fn push_gone(lines: &mut Vec<Line>, alloc: Global, id: TaskId) -> Result<(), All
     Ok(())
 }
 
-/// Pushes all that is told of the task of an id: what was told of it once, the operations that it polls, the findings about its place, each with what to
-/// do, its histograms where the stream has some of it, and all its statistics. Or that it isn't there any more.
+/// Pushes all that is told of the task of an id: what was told of it once, the operations that it polls with their resources, the findings about its place,
+/// each with what to do and who waited, its histograms if the stream has some of it, and all its statistics. Or that it isn't there any more.
 pub(crate) fn push_details(
     lines: &mut Vec<Line>,
     alloc: Global,

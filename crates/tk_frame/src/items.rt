@@ -19,8 +19,8 @@ pub(crate) fn resource_heading() -> &'static str
     "RESOURCE    READY  PENDING TYPE (KIND) LOCATION"
 }
 
-// A resource's type, and what it is for.
-fn put_type(out: &mut String, concrete: &Name, kind: &Name) -> Result<(), AllocError>
+/// Puts a resource's type, and what it is for.
+pub(crate) fn put_type(out: &mut String, concrete: &Name, kind: &Name) -> Result<(), AllocError>
     ensures { OnOk result (Puts (string_bytes out.old) (string_bytes out.new) (spec.type_text concrete.now kind.now)) }
 {
     write!(out, "{concrete} ({kind}) ")

@@ -25,6 +25,7 @@ mod place_lines;
 mod place_ranks;
 mod place_view;
 mod places;
+mod polled;
 mod query;
 mod ranks;
 mod recent;

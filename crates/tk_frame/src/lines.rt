@@ -34,7 +34,7 @@ pub(crate) fn push_head(
     lines: &mut Vec<Line>,
     alloc: Global,
     tables: &Tables,
-    again: bool,
+    again: Option<u64>,
     states: States,
     findings: usize,
 ) -> Result<(), AllocError>
@@ -238,7 +238,7 @@ fn push_all(
     Ok(())
 }
 
-/// The lines of a screen of tables of which this is odd: the first line, with the moment, whether the service was started again, the tasks by their states, how many findings
+/// The lines of a screen of tables of which this is odd: the first line, with the moment, how long ago the service was started again, the tasks by their states, how many findings
 /// there are and what was lost; how many tasks waited at each of the last lines, where there were several; that no finding holds now, where it is so; the worst findings, as many as a third of the screen's rows,
 /// and how many more there are; the first places, or open tasks, as many as have room, and how many there are; and where they were asked for, open
 /// resources and async operations.

@@ -1,6 +1,6 @@
 //! What is told of what is odd.
 ghost use Rattle.std.specs.Prelude.{◌≡◌, length, map, option_map, slice_get};
-ghost use Rattle.tk_odd.specs.Findings.{placed};
+ghost use Rattle.tk_odd.specs.Findings.{placed, told};
 ghost use Rattle.tk_frame.specs.Keys.{finding_task};
 ghost use Rattle.tk_frame.specs.Places.{recent_of, row_of};
 ghost use Rattle.tk_frame.specs.Queries.{places_by, recent_places, recent_time};
@@ -18,14 +18,14 @@ pub struct Odd {
     places: Vec<Place>,
     recent: Option<Recent>,
     waits: Vec<u64>,
-    again: bool,
+    again: Option<u64>,
     span: Option<u64>,
     long: u64,
 }
 
 impl Model for Odd {
     ghost use Rattle.std.specs.Prelude.{map, option_map};
-    ghost use Rattle.tk_odd.specs.Findings.{placed};
+    ghost use Rattle.tk_odd.specs.Findings.{placed, told};
     ghost use Rattle.tk_frame.specs.Findings.{OddView};
     ghost use Rattle.tk_frame.specs.Places.{recent_of, row_of};
 
@@ -33,6 +33,7 @@ impl Model for Odd {
 
     ghost view = { λ odd. record {
       findings = map placed odd.findings.items;
+      told = map told odd.findings.items;
       places = map row_of odd.places.items;
       recent = option_map recent_of odd.recent;
       waits = odd.waits.items;
@@ -43,19 +44,20 @@ impl Model for Odd {
 }
 
 impl Odd {
-    /// Findings, worst first; the places, as `places_of` orders them; what these came to in the last while, where lines reach back so far; how many
-    /// tasks waited at each of the last lines, the last one last; whether the service was started again; how long the time is from the first line to the last, where one came; and from when on a poll is a long one.
+    /// Findings, worst first, each with who waited longest for it; the places, as `places_of` orders them; what these came to in the last while, where lines reach back so far; how many
+    /// tasks waited at each of the last lines, the last one last; the moment of the first line since the service was started again, if it was; how long the time is from the first line to the last, where one came; and from when on a poll is a long one.
     pub fn new(
         findings: Vec<Found>,
         places: Vec<Place>,
         recent: Option<Recent>,
         waits: Vec<u64>,
-        again: bool,
+        again: Option<u64>,
         span: Option<u64>,
         long: u64,
     ) -> Odd
         ensures { result ≡ record {
           findings = map placed findings.items;
+          told = map told findings.items;
           places = map row_of places.items;
           recent = option_map recent_of recent;
           waits = waits.items;
@@ -77,7 +79,8 @@ impl Odd {
 
     /// The findings, worst first.
     pub fn findings(&self) -> &[Found]
-        ensures { map placed result.now ≡ self.now.findings }
+        ensures found { map placed result.now ≡ self.now.findings }
+        ensures whom { map told result.now ≡ self.now.told }
     {
         self.findings.as_slice()
     }
@@ -151,8 +154,8 @@ impl Odd {
         self.waits.as_slice()
     }
 
-    /// Whether the service was started again.
-    pub fn again(&self) -> bool
+    /// The moment of the first line since the service was started again; `None` if it was not.
+    pub fn again(&self) -> Option<u64>
         ensures { result ≡ self.now.again }
     {
         self.again

@@ -1,15 +1,15 @@
 //! The lines that tell what is odd.
 ghost use Rattle.std.specs.Prelude.{◌≡◌, ◌<◌, IfOk, OnOk, map, string_bytes, take};
-ghost use Rattle.tk_odd.specs.Findings.{placed};
+ghost use Rattle.tk_odd.specs.Findings.{placed, told, victim_of};
 ghost use Rattle.tk_screen.specs.Texts.{Puts};
 ghost use Rattle.tk_frame.specs.Findings as spec;
 
 use crate::cells::put_text;
-use crate::findings::{advice_line, finding_line};
+use crate::findings::{advice_line, finding_line, put_place};
 use crate::odd::Odd;
 use crate::waiting::put_waiting;
 use std::alloc::{AllocError, Global};
-use tk_odd::{Found, Waiting, place_of};
+use tk_odd::{Found, Victim, Waiting, place_of};
 use tk_screen::{Canvas, Line, Style, put_duration};
 use tk_stream::{Tables, Task};
 
@@ -204,6 +204,33 @@ pub(crate) fn push_findings(
 
 // ---- the findings about one place
 
+fn put_whom(out: &mut String, victim: &Victim) -> Result<(), AllocError>
+    ensures { OnOk result (Puts (string_bytes out.old) (string_bytes out.new) (spec.whom_text victim.now.place.items victim.now.time)) }
+{
+    put_text(out, "  waited longest for it, at least ")?;
+    put_duration(out, victim.time)?;
+    put_text(out, ": ")?;
+    put_place(out, victim.place.as_slice())?;
+    Ok(())
+}
+
+// Pushes who waited longest, if it is known.
+fn push_whom(
+    lines: &mut Vec<Line>,
+    alloc: Global,
+    victim: &Option<Victim>,
+) -> Result<(), AllocError>
+    ensures { OnOk result (Puts lines.old.items lines.new.items (spec.whom_part (victim_of victim.now))) }
+{
+    let Some(victim) = victim else {
+        return Ok(());
+    };
+    let mut text = String::new(alloc);
+    put_whom(&mut text, victim)?;
+    lines.push(Line::new(Style::Plain, text))?;
+    Ok(())
+}
+
 fn push_about(
     lines: &mut Vec<Line>,
     alloc: Global,
@@ -211,10 +238,11 @@ fn push_about(
     number: u64,
     found: &Found,
 ) -> Result<(), AllocError>
-    ensures { OnOk result (Puts lines.old.items lines.new.items (spec.about_lines tables.now.tasks number (placed found.now))) }
+    ensures { OnOk result (Puts lines.old.items lines.new.items (spec.about_lines tables.now.tasks number (told found.now))) }
 {
     lines.push(finding_line(alloc, tables, number, found)?)?;
     lines.push(advice_line(alloc, found.finding.kind)?)?;
+    push_whom(lines, alloc, &found.victim)?;
     Ok(())
 }
 
@@ -226,7 +254,7 @@ fn push_own(
     number: u64,
     found: &Found,
 ) -> Result<(), AllocError>
-    ensures { OnOk result (Puts lines.old.items lines.new.items (spec.own_lines tables.now.tasks place.now number (placed found.now))) }
+    ensures { OnOk result (Puts lines.old.items lines.new.items (spec.own_lines tables.now.tasks place.now number (told found.now))) }
 {
     if found.place.as_slice() == place {
         push_about(lines, alloc, tables, number, found)
@@ -235,7 +263,7 @@ fn push_own(
     }
 }
 
-/// Pushes those of these findings that are about this place, each with its number and with what to do.
+/// Pushes those of these findings that are about this place, each with its number, with what to do, and with who waited longest.
 pub(crate) fn push_own_each(
     lines: &mut Vec<Line>,
     alloc: Global,
@@ -243,7 +271,7 @@ pub(crate) fn push_own_each(
     place: &[u8],
     list: &[Found],
 ) -> Result<(), AllocError>
-    ensures { OnOk result (Puts lines.old.items lines.new.items (spec.own_part tables.now.tasks place.now (map placed list.now))) }
+    ensures { OnOk result (Puts lines.old.items lines.new.items (spec.own_part tables.now.tasks place.now (map told list.now))) }
 {
     for (i, found) in list.iter().enumerate() {
         push_own(lines, alloc, tables, place, i as u64 + 1, found)?;

@@ -4,7 +4,7 @@ ghost use Rattle.tk_screen.specs.Texts.{Puts};
 ghost use Rattle.tk_frame.specs.Lines as spec;
 ghost use Rattle.tk_frame.specs.Pages.{page_text};
 
-use crate::cells::{put_end, put_part, put_text, put_time, put_value, put_word};
+use crate::cells::{put_end, put_gone, put_part, put_text, put_time, put_value, put_word};
 use crate::pages::{Page, put_page};
 use crate::ranks::States;
 use std::alloc::{AllocError, Global};
@@ -53,35 +53,42 @@ fn put_count(out: &mut String, findings: usize) -> Result<(), AllocError>
     write!(out, "  findings {findings}")
 }
 
-fn again_word(again: bool) -> &'static str
-    ensures { result.now ≡ spec.again_word again }
+// Puts how long ago the service was started again, if it was.
+fn put_again(out: &mut String, now: u64, again: Option<u64>) -> Result<(), AllocError>
+    ensures { OnOk result (Puts (string_bytes out.old) (string_bytes out.new) (spec.again_text now again)) }
 {
-    if again { ", started again" } else { "" }
+    let Some(moment) = again else {
+        return Ok(());
+    };
+    put_text(out, ", started again ")?;
+    put_gone(out, now.saturating_sub(moment))?;
+    Ok(())
 }
 
 fn put_head(
     out: &mut String,
     tables: &Tables,
-    again: bool,
+    again: Option<u64>,
     states: States,
     findings: usize,
 ) -> Result<(), AllocError>
     ensures { OnOk result (Puts (string_bytes out.old) (string_bytes out.new) (spec.head_text tables.now again states findings)) }
 {
+    let now = tables.now();
     put_text(out, "now ")?;
-    put_duration(out, tables.now())?;
-    put_text(out, again_word(again))?;
+    put_duration(out, now)?;
+    put_again(out, now, again)?;
     put_states(out, tables.task_count(), states)?;
     put_count(out, findings)?;
     put_lost(out, tables.dropped())?;
     Ok(())
 }
 
-/// The first line of a screen: the moment, whether the service was started again, the tasks by their states, how many findings there are, and what was lost.
+/// The first line of a screen: the moment, how long ago the service was started again, the tasks by their states, how many findings there are, and what was lost.
 pub(crate) fn head_line(
     alloc: Global,
     tables: &Tables,
-    again: bool,
+    again: Option<u64>,
     states: States,
     findings: usize,
 ) -> Result<Line, AllocError>

@@ -142,32 +142,59 @@ fn tables_have_numbers(
     }
 }
 
-// A client after the two lines of a stream, and what is odd then.
-fn diagnosed(alloc: Global, stream: &[u8]) -> Option<(Client, Diagnosis)> {
+// What a check answers of a value that was made. How the value ends is proved here alone, where nothing is known of it. Elsewhere that is
+// dear of a client and of a diagnosis.
+fn on_made<T: Drop, E: Drop, F: FnOnce(&mut T) -> bool>(made: Result<T, E>, check: F) -> bool
+    requires { F.IsAlwaysCallable check }
+{
+    match made {
+        Ok(mut value) => check(&mut value),
+        Err(_) => false,
+    }
+}
+
+// How many bytes a client takes as a line, of which a diagnosis is told.
+fn note_line(client: &mut Client, diagnosis: &mut Diagnosis, text: &[u8]) -> Option<usize> {
+    match client.feed_line(text) {
+        Ok(fed) => {
+            let is_noted = match &fed.change {
+                Some(change) => diagnosis.note(client.tables(), change).is_ok(),
+                None => true,
+            };
+            is_noted.then_some(fed.used)
+        }
+        Err(_) => None,
+    }
+}
+
+// Whether a client takes two lines, of which a diagnosis is told.
+fn note_two(client: &mut Client, diagnosis: &mut Diagnosis, stream: &[u8]) -> bool {
+    let Some(used) = note_line(client, diagnosis, stream) else {
+        return false;
+    };
+    match stream.get(used..) {
+        Some(rest) => note_line(client, diagnosis, rest).is_some(),
+        None => false,
+    }
+}
+
+// Whether the tables after the two lines of a stream have these numbers.
+fn two_lines_have_numbers(alloc: Global, stream: &[u8], text: &str) -> bool {
     let limits = Limits {
         long: 100_000_000,
         lints: Lints::default(),
     };
-    let mut client = Client::new(alloc, 100_000).ok()?;
-    let mut diagnosis = Diagnosis::new(alloc, limits).ok()?;
-    let mut rest = stream;
-    for _ in 0..2 {
-        let fed = client.feed_line(rest).ok()?;
-        if let Some(change) = &fed.change {
-            diagnosis.note(client.tables(), change).ok()?;
-        }
-        rest = rest.get(fed.used..)?;
-    }
-    Some((client, diagnosis))
+    on_made(Client::new(alloc, 100_000), |client: &mut Client| {
+        on_made(Diagnosis::new(alloc, limits), |diagnosis: &mut Diagnosis| {
+            note_two(client, diagnosis, stream)
+                && tables_have_numbers(alloc, client, diagnosis, 2, text)
+        })
+    })
 }
 
 #[test]
 fn tables_have_the_numbers_of_their_stream(rt: HostRuntime) {
-    let Some((client, diagnosis)) = diagnosed(rt.alloc(), LOST) else {
-        assert!(rt; false);
-        return;
-    };
-    assert!(rt; tables_have_numbers(rt.alloc(), &client, &diagnosis, 2, LOST_NUMBERS));
+    assert!(rt; two_lines_have_numbers(rt.alloc(), LOST, LOST_NUMBERS));
 }
 
 // Takes so many bytes, and then gives an error.

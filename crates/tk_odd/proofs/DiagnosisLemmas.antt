@@ -22,9 +22,17 @@ unfolding standing_of
 stands_first limits = refl
 
 -- what has seen no line
-pub follows_none : {E : Type 0} (r : Result Diagnosis E) → IfOk r (λ d. standing_in empty_tables d ≡ nothing) → IfOk r (λ d. Keeps empty_tables d.rows) → IfOk r (λ d. Follows [] d)
-follows_none (Ok d) h k = record { standing = h ∙ sym (stands_first d.limits); rows = k }
-follows_none (Err e) h k = tt
+pub follows_none : (d : Diagnosis) → standing_in empty_tables d ≡ nothing → Keeps empty_tables d.rows → Follows [] d
+follows_none d h k = record { standing = h ∙ sym (stands_first d.limits); rows = k }
+
+stands_one : (limits : Limits) (tables : TablesView) → standing_of limits (tables ∷ []) ≡ opens nothing tables
+unfolding standing_of
+stands_one limits tables = refl
+
+-- what was over, and has seen one line since
+pub follows_first : (before tables : TablesView) (old new : Diagnosis) → standing_in empty_tables old ≡ nothing → Goes opens before tables old new → Follows (tables ∷ []) new
+follows_first before tables old new none goes =
+    record { standing = goes.standing ∙ ap (λ (d : Standing). opens d tables) none ∙ sym (stands_one new.limits tables); rows = goes.rows }
 
 -- ---- a line more, case by case
 
@@ -35,6 +43,14 @@ led_to tables d = record d { before = tables }
 pub on_ok : {E : Type 0} (A B : Type 0) (r : Result (Unit {0}) E) → (A → B) → OnOk r A → OnOk r B
 on_ok A B (Ok done) f a = f a
 on_ok A B (Err e) f a = tt
+
+pub both_ok : {E : Type 0} (A B : Type 0) (r : Result (Unit {0}) E) → OnOk r A → B → OnOk r (A × B)
+both_ok A B (Ok done) a b = (a, b)
+both_ok A B (Err e) a b = tt
+
+pub three_ok : {E : Type 0} (A B C : Type 0) (r : Result (Unit {0}) E) → OnOk r A → B → C → OnOk r (A × B × C)
+three_ok A B C (Ok done) a b c = (a, b, c)
+three_ok A B C (Err e) a b c = tt
 
 not-none : (n : ℕ) → (n ≡ 0 → ⊥) → nat_eq n 0 ≡ false
 not-none n some = by (nat_eq n 0) refl

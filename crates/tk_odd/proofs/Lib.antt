@@ -4,3 +4,4 @@ pub mod ListLemmas
 pub mod LoopLemmas
 pub mod MemberLemmas
 pub mod RowLemmas
+pub mod SpanLemmas

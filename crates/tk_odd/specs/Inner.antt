@@ -3,11 +3,13 @@ use Rattle.std.specs.Prelude.{◌≡◌, ℕ, List, map}
 use Rattle.tk_odd.specs.declared.diagnosis.Diagnosis.{Diagnosis}
 use Rattle.tk_odd.specs.declared.members.Member.{Member as Kept}
 use Rattle.tk_odd.specs.declared.places.Places.{Places as KeptPlaces}
+use Rattle.tk_odd.specs.declared.span.Span.{Span}
 use Rattle.tk_reading.specs.Shown.{last_shown}
 use Rattle.tk_stream.specs.Tables.{TablesView, empty_tables}
 use Rattle.tk_odd.specs.Diagnosis.{Places, Standing, standing_of}
 use Rattle.tk_odd.specs.Keeping.{Keeps}
 use Rattle.tk_odd.specs.Members.{Member}
+use Rattle.tk_odd.specs.Span.{span_of}
 
 -- the members of a step, as they are kept
 abbrev pub shown : List (ℕ × Kept) → List Member
@@ -42,3 +44,7 @@ pub record Follows (shown : List TablesView) (d : Diagnosis) : Type 0 where
 pub record Goes (step : Standing → TablesView → Standing) (before tables : TablesView) (old new : Diagnosis) : Type 0 where
   pub standing : standing_in tables new ≡ step (standing_in before old) tables
   pub rows : Keeps tables new.rows
+
+-- what is kept is what stands after the lines of a span, where a stream has shown these
+abbrev pub FollowsSpan : List TablesView → Span → Type 0
+FollowsSpan shown s = Follows (span_of s.since shown) s.diagnosis

@@ -18,6 +18,8 @@ pub mod Members
 pub mod Victims
 -- Line by line: what the steps of a stream came to
 pub mod Diagnosis
+-- The lines of a span of a stream
+pub mod Span
 -- Inner: what is kept of the last line's tasks
 pub mod Keeping
 -- Inner: how what is kept shows what the definitions say

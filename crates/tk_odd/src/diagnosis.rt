@@ -25,6 +25,7 @@ use crate::waited::Waited;
 use crate::waiters::Waiters;
 use indexmap::IndexMap;
 use std::alloc::{AllocError, Global};
+use std::mem;
 use tk_client::Change;
 use tk_series::Series;
 use tk_stream::Tables;
@@ -105,18 +106,18 @@ fn also(holds: bool, from: u64, to: u64, span: Option<Stretch>) -> Option<Stretc
 }
 
 impl Diagnosis {
-    // Of no lines yet.
-    fn none(alloc: Global, limits: Limits) -> Result<Diagnosis, AllocError>
-        ensures nothing { IfOk result (λ d. inner.standing_in empty_tables d ≡ spec.nothing) }
-        ensures rows { IfOk result (λ d. Keeps empty_tables d.rows) }
-        ensures limits { IfOk result (λ d. d.limits ≡ limits) }
+    // Of no lines yet, with the rows of the last line's tasks.
+    fn over(alloc: Global, limits: Limits, rows: Rows) -> Diagnosis
+        ensures nothing { inner.standing_in empty_tables result ≡ spec.nothing }
+        ensures rows { result.rows ≡ rows }
+        ensures limits { result.limits ≡ limits }
     {
-        Ok(Diagnosis {
+        Diagnosis {
             alloc,
             limits,
             lines: 0,
             first: Waiters::none(alloc),
-            rows: Rows::new(alloc),
+            rows,
             members: IndexMap::new(alloc),
             places: Places {
                 held: Series::new(alloc),
@@ -132,7 +133,7 @@ impl Diagnosis {
             overloaded: None,
             alone: None,
             passed: Vec::new(alloc),
-        })
+        }
     }
 
     /// Of no lines yet.
@@ -140,7 +141,7 @@ impl Diagnosis {
         ensures nothing { IfOk result (λ d. inner.Follows [] d) }
         ensures limits { IfOk result (λ d. d.limits ≡ limits) }
     {
-        Diagnosis::none(alloc, limits)
+        Ok(Diagnosis::over(alloc, limits, Rows::new(alloc)))
     }
 
     // Ends the step with these tables.
@@ -257,5 +258,19 @@ impl Diagnosis {
         ensures limits { self.new.limits ≡ self.old.limits }
     {
         self.after_line(tables, change)
+    }
+
+    /// Begins anew with the tables after a line, which changed this in those before it: what was read before counts no longer. It costs what the
+    /// line changed, and the tasks that wait.
+    ///
+    /// `AllocError`: there was no memory. Of what this then is nothing is known.
+    pub fn begin_with(&mut self, tables: &Tables, change: &Change) -> Result<(), AllocError>
+        ensures begins { (shown : List TablesView) → Leads (last_shown empty_tables shown) tables.now change.now → inner.Follows shown self.old
+            → OnOk result (inner.Follows (tables.now ∷ []) self.new) }
+        ensures limits { self.new.limits ≡ self.old.limits }
+    {
+        let rows = mem::replace(&mut self.rows, Rows::new(self.alloc));
+        *self = Diagnosis::over(self.alloc, self.limits, rows);
+        self.open(tables, change)
     }
 }

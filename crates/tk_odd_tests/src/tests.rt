@@ -3,4 +3,5 @@
 mod examples;
 mod given;
 mod kinds;
+mod span;
 mod streams;

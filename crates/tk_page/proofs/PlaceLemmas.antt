@@ -33,11 +33,11 @@ use Rattle.tk_page.specs.declared.picture.Whom.TheVariants as whom
 use Rattle.tk_page.specs.declared.ranks.Rank.{Rank}
 use Rattle.tk_page.specs.declared.sample.Sample.{Sample}
 use Rattle.tk_page.specs.declared.sample.Step.{Step}
-use Rattle.tk_page.specs.declared.strips.Area.{Area}
-use Rattle.tk_page.specs.declared.strips.Boxes.{Boxes}
-use Rattle.tk_page.specs.declared.strips.Boxes.TheVariants as which
-use Rattle.tk_page.specs.declared.strips.Doing.{Doing}
-use Rattle.tk_page.specs.declared.strips.Doing.TheVariants as doing
+use Rattle.tk_page.specs.declared.boxes.Area.{Area}
+use Rattle.tk_page.specs.declared.boxes.Boxes.{Boxes}
+use Rattle.tk_page.specs.declared.boxes.Boxes.TheVariants as which
+use Rattle.tk_page.specs.declared.peaks.Doing.{Doing}
+use Rattle.tk_page.specs.declared.peaks.Doing.TheVariants as doing
 use Rattle.tk_page.specs.declared.strips.Height.{Height}
 use Rattle.tk_odd.specs.declared.waiting.Waiting.{Waiting}
 use Rattle.tk_page.specs.Badges as badges

@@ -14,8 +14,8 @@ use Rattle.tk_page.specs.declared.picture.Whom.{Whom}
 use Rattle.tk_page.specs.declared.picture.Whom.TheVariants as whom
 use Rattle.tk_page.specs.declared.sample.Sample.{Sample}
 use Rattle.tk_page.specs.declared.sample.Step.{Step}
-use Rattle.tk_page.specs.declared.strips.Boxes.{Boxes}
-use Rattle.tk_page.specs.declared.strips.Boxes.TheVariants as which
+use Rattle.tk_page.specs.declared.boxes.Boxes.{Boxes}
+use Rattle.tk_page.specs.declared.boxes.Boxes.TheVariants as which
 
 -- ---- shares
 

@@ -13,7 +13,7 @@ use Rattle.tk_page.specs.declared.picture.Split.{Split}
 use Rattle.tk_page.specs.declared.picture.Whom.{Whom}
 use Rattle.tk_page.specs.declared.picture.Whom.TheVariants as whom
 use Rattle.tk_page.specs.declared.sample.Step.{Step}
-use Rattle.tk_page.specs.declared.strips.Area.{Area}
+use Rattle.tk_page.specs.declared.boxes.Area.{Area}
 use Rattle.tk_page.specs.declared.strips.Height.{Height}
 use Rattle.tk_page.specs.Figures.{mean_of, share_of, wide_of, x_of}
 use Rattle.tk_page.specs.Samples.{time_of}

@@ -10,11 +10,11 @@ use Rattle.tk_paper.specs.declared.marks.Tag.TheVariants as tags
 use Rattle.tk_page.specs.declared.figures.Scale.{Scale}
 use Rattle.tk_page.specs.declared.sample.Sample.{Sample}
 use Rattle.tk_page.specs.declared.sample.Step.{Step}
-use Rattle.tk_page.specs.declared.strips.Area.{Area}
-use Rattle.tk_page.specs.declared.strips.Boxes.{Boxes}
-use Rattle.tk_page.specs.declared.strips.Boxes.TheVariants as which
-use Rattle.tk_page.specs.declared.strips.Doing.{Doing}
-use Rattle.tk_page.specs.declared.strips.Doing.TheVariants as doing
+use Rattle.tk_page.specs.declared.boxes.Area.{Area}
+use Rattle.tk_page.specs.declared.boxes.Boxes.{Boxes}
+use Rattle.tk_page.specs.declared.boxes.Boxes.TheVariants as which
+use Rattle.tk_page.specs.declared.peaks.Doing.{Doing}
+use Rattle.tk_page.specs.declared.peaks.Doing.TheVariants as doing
 use Rattle.tk_page.specs.Figures.{mean_of, share_of, watched, wide_of, x_of}
 use Rattle.tk_page.specs.Odd.{is_lost}
 use Rattle.tk_page.specs.Samples.{nothing, sample_of, step_of, time_of}

@@ -1,7 +1,7 @@
 -- How a strip's boxes and steps stand to the whole.
 use Rattle.std.specs.Prelude.{◌≡◌, ℕ, ◌+◌, ◌≤◌, List, [], ◌∷◌}
 use Rattle.tk_page.specs.declared.sample.Sample.{Sample}
-use Rattle.tk_page.specs.declared.strips.Area.{Area}
+use Rattle.tk_page.specs.declared.boxes.Area.{Area}
 
 -- a box stays within a drawing that is so wide and so high: it ends at the right edge or before it, stands at the lower edge or above it, and
 -- doesn't rise over the upper edge

@@ -1,26 +1,24 @@
 //! What is odd, in words with what to do.
-ghost use Rattle.std.specs.Prelude.{◌≡◌, ◌-◌, ◌==◌, ◌∷◌, ◌++◌, [], OnOk, Some, codes, flat_map};
+ghost use Rattle.std.specs.Prelude.{◌≡◌, ◌-◌, ◌==◌, [], OnOk, Some, flat_map};
 ghost use Rattle.std.specs.Option.{option_map};
 ghost use Rattle.tk_odd.specs.Findings.{victim_of};
-ghost use Rattle.tk_odd.specs.Words.{after_of, before_of};
 ghost use Rattle.tk_page.specs.Cards as spec;
 ghost use Rattle.tk_page.specs.Courses.{courses_of};
 ghost use Rattle.tk_paper.specs.Parts.{text};
 ghost use Rattle.tk_paper.specs.Pieces.{Writes};
 
 use crate::badges::{mark_of, start_section};
-use crate::figures::{Scale, count, each, share};
+use crate::calm::put_nothing_odd;
+use crate::facts::put_facts;
+use crate::figures::{Scale, count};
 use crate::history::History;
 use crate::oddities::{CARDS, Signs};
 use crate::resources::put_more;
-use crate::sample::Sample;
 use crate::waiting::any_waits_from_last_wake;
 use std::alloc::AllocError;
 use tk_ids::TaskId;
-use tk_odd::{Finding, Found, OddKind, Shape, Victim};
-use tk_paper::Part::{
-    Class, Close, Count, End, Number, Open, Share, Span, Start, Text, With, WithNumber,
-};
+use tk_odd::{Finding, Found, OddKind, Victim};
+use tk_paper::Part::{Class, Close, Count, End, Number, Open, Span, Start, Text, With, WithNumber};
 use tk_paper::{Attr, Paper, Tag};
 use tk_report::kind_word;
 use tk_stream::{Tables, Task};
@@ -175,153 +173,6 @@ fn put_said(paper: &mut Paper, is_now: bool, kind: OddKind) -> Result<(), AllocE
     ])
 }
 
-// Puts for how long a task ran while no other was polled, where one did.
-fn put_alone(paper: &mut Paper, still: u64) -> Result<(), AllocError>
-    ensures { OnOk result (Writes paper.old paper.new (spec.alone still)) }
-{
-    if still == 0 {
-        return paper.put(&[]);
-    }
-    paper.put(&[
-        Text(" No other task was polled while it ran for "),
-        Span(still),
-        Text("."),
-    ])
-}
-
-// Puts how long a poll took.
-fn put_longest(paper: &mut Paper, time: u64) -> Result<(), AllocError>
-    ensures { OnOk result (Writes paper.old paper.new (spec.longest time)) }
-{
-    paper.put(&[Text(". A poll of it took at least "), Span(time), Text(".")])
-}
-
-// Puts a time between the words of a kind.
-fn put_timed(paper: &mut Paper, kind: OddKind, time: u64) -> Result<(), AllocError>
-    ensures { OnOk result (Writes paper.old paper.new (spec.timed (before_of kind) time (after_of kind))) }
-{
-    paper.put(&[
-        Text(kind.before()),
-        Text(" "),
-        Span(time),
-        Text(kind.after()),
-    ])
-}
-
-fn put_steps(paper: &mut Paper, scale: Scale, finding: &Finding) -> Result<(), AllocError>
-    ensures { OnOk result (Writes paper.old paper.new (spec.steps scale finding.now)) }
-{
-    paper.put(&[
-        Text("Between "),
-        Span(scale.since(finding.since)),
-        Text(" and "),
-        Span(scale.since(finding.until)),
-        Text(" "),
-    ])
-}
-
-fn put_held(
-    paper: &mut Paper,
-    scale: Scale,
-    kind: OddKind,
-    finding: &Finding,
-) -> Result<(), AllocError>
-    ensures { OnOk result (Writes paper.old paper.new (spec.facts_of Shape.Held scale 0 finding.now (before_of kind) (after_of kind))) }
-{
-    put_steps(paper, scale, finding)?;
-    put_timed(paper, kind, finding.figure)?;
-    put_longest(paper, finding.longest)?;
-    put_alone(paper, finding.still)?;
-    Ok(())
-}
-
-fn put_lone(paper: &mut Paper, kind: OddKind, finding: &Finding) -> Result<(), AllocError>
-    ensures { OnOk result (Writes paper.old paper.new (spec.timed (before_of kind) finding.now.figure (after_of kind) ++ spec.longest finding.now.longest)) }
-{
-    put_timed(paper, kind, finding.figure)?;
-    put_longest(paper, finding.longest)?;
-    Ok(())
-}
-
-fn put_stretch(
-    paper: &mut Paper,
-    scale: Scale,
-    long: u64,
-    kind: OddKind,
-    finding: &Finding,
-) -> Result<(), AllocError>
-    ensures { OnOk result (Writes paper.old paper.new (spec.facts_of Shape.Stretch scale long finding.now (before_of kind) (after_of kind))) }
-{
-    put_steps(paper, scale, finding)?;
-    put_timed(paper, kind, long)?;
-    paper.put(&[Text(".")])?;
-    Ok(())
-}
-
-fn put_lasting(
-    paper: &mut Paper,
-    scale: Scale,
-    kind: OddKind,
-    finding: &Finding,
-) -> Result<(), AllocError>
-    ensures { OnOk result (Writes paper.old paper.new (spec.lasting scale finding.now (before_of kind) (after_of kind))) }
-{
-    paper.put(&[
-        Text(kind.before()),
-        Text(" since "),
-        Span(scale.since(finding.since)),
-        Text(", for "),
-        Span(finding.figure),
-        Text(kind.after()),
-        Text("."),
-    ])
-}
-
-fn put_one(paper: &mut Paper, kind: OddKind, finding: &Finding) -> Result<(), AllocError>
-    ensures { OnOk result (Writes paper.old paper.new (spec.timed (before_of kind) finding.now.figure (after_of kind) ++ text (codes ".") ∷ [])) }
-{
-    put_timed(paper, kind, finding.figure)?;
-    paper.put(&[Text(".")])?;
-    Ok(())
-}
-
-fn put_part(paper: &mut Paper, kind: OddKind, finding: &Finding) -> Result<(), AllocError>
-    ensures { OnOk result (Writes paper.old paper.new (spec.part finding.now (before_of kind) (after_of kind))) }
-{
-    let own = share(finding.figure, finding.of);
-    paper.put(&[
-        Count(finding.figure),
-        Text(" "),
-        Text(kind.before()),
-        Text(" "),
-        Count(finding.of),
-        Text(kind.after()),
-        Text(", "),
-        Share(own),
-        Text("."),
-    ])
-}
-
-// Puts what is told of a finding.
-fn put_facts(
-    paper: &mut Paper,
-    scale: Scale,
-    long: u64,
-    kind: OddKind,
-    finding: &Finding,
-) -> Result<(), AllocError>
-    ensures { OnOk result (Writes paper.old paper.new (spec.facts scale long kind finding.now)) }
-{
-    match kind.shape() {
-        Shape::Held => put_held(paper, scale, kind, finding),
-        Shape::Alone => put_lone(paper, kind, finding),
-        Shape::Stretch => put_stretch(paper, scale, long, kind, finding),
-        Shape::Lasting => put_lasting(paper, scale, kind, finding),
-        Shape::Longest => put_one(paper, kind, finding),
-        Shape::Share => put_part(paper, kind, finding),
-    }
-}
-
 // Puts of how many tasks more of the place the same holds.
 fn put_others(paper: &mut Paper, tasks: u64) -> Result<(), AllocError>
     ensures { OnOk result (Writes paper.old paper.new (spec.others tasks)) }
@@ -430,98 +281,6 @@ fn put_all_odd(
     put_cards(paper, scale, signs.limits.long, tables, signs.carded())?;
     paper.put(&[Close(Tag::Ul)])?;
     put_more(paper, all, CARDS, " more")?;
-    paper.put(&[Close(Tag::Section)])?;
-    Ok(())
-}
-
-// ---- nothing is odd
-
-// Puts how long tasks waited for a poll in the mean.
-fn put_mean_wait(paper: &mut Paper, all: Sample) -> Result<(), AllocError>
-    ensures { OnOk result (Writes paper.old paper.new (spec.mean_wait all)) }
-{
-    if all.polls == 0 {
-        return paper.put(&[Text(" No task was polled.")]);
-    }
-    paper.put(&[
-        Text(" In the mean tasks waited "),
-        Span(each(all.sched, all.polls)),
-        Text(" for a poll."),
-    ])
-}
-
-// Puts that they may have waited longer, where each wait is counted from its last wake alone.
-fn put_unsure(paper: &mut Paper, late: bool) -> Result<(), AllocError>
-    ensures { OnOk result (Writes paper.old paper.new (spec.unsure late)) }
-{
-    if late {
-        paper.put(&[Text(
-            " They may have waited longer, since this stream counts each wait from its last wake.",
-        )])
-    } else {
-        paper.put(&[])
-    }
-}
-
-fn put_calm(paper: &mut Paper, long: u64, all: Sample, late: bool) -> Result<(), AllocError>
-    ensures { OnOk result (Writes paper.old paper.new (spec.calm long all late)) }
-{
-    paper.put(&[
-        Class(Tag::P, "fine"),
-        Text("Nothing: no poll is known to have taken "),
-        Span(long),
-        Text("."),
-    ])?;
-    put_mean_wait(paper, all)?;
-    put_unsure(paper, late)?;
-    paper.put(&[Close(Tag::P)])?;
-    Ok(())
-}
-
-// Puts that the lines span too little time to see who held up others.
-fn put_unseen(paper: &mut Paper, time: u64, long: u64) -> Result<(), AllocError>
-    ensures { OnOk result (Writes paper.old paper.new (spec.unseen time long)) }
-{
-    paper.put(&[
-        Class(Tag::P, "note"),
-        Text(
-            "Nothing is odd about a task in itself. Who held up others can't be seen: the lines span ",
-        ),
-        Span(time),
-        Text(", and it takes at least "),
-        Span(long),
-        Text("."),
-        Close(Tag::P),
-    ])
-}
-
-fn put_calm_or_unseen(
-    paper: &mut Paper,
-    time: u64,
-    long: u64,
-    all: Sample,
-    late: bool,
-) -> Result<(), AllocError>
-    ensures { OnOk result (Writes paper.old paper.new (spec.calm_or_unseen time long all late)) }
-{
-    if time < long {
-        put_unseen(paper, time, long)
-    } else {
-        put_calm(paper, long, all, late)
-    }
-}
-
-fn put_nothing_odd(
-    paper: &mut Paper,
-    time: u64,
-    long: u64,
-    all: Sample,
-    late: bool,
-) -> Result<(), AllocError>
-    ensures { OnOk result (Writes paper.old paper.new (spec.nothing_odd time long all late)) }
-{
-    paper.put(&[Close(Tag::H2)])?;
-    put_calm_or_unseen(paper, time, long, all, late)?;
     paper.put(&[Close(Tag::Section)])?;
     Ok(())
 }

@@ -2,7 +2,7 @@
 
 /// What stands before the page's text.
 pub const HEAD: &str = "<!DOCTYPE html>
-<html lang=\"en\"><head><meta charset=\"utf-8\"><meta http-equiv=\"Content-Security-Policy\" content=\"default-src 'none'; style-src 'sha256-DwXXD4yRwll3rRvs8wOaoC6ViNe9+E6XEWGbm3c8gDY='; script-src 'sha256-euTDfX1UqSQFr1eJLdcZIO/1nLsHNjzxguHtjCaItWo='\"><meta name=\"viewport\" content=\"width=device-width, initial-scale=1\"><meta name=\"color-scheme\" content=\"light dark\"><title>taskscope</title><style>:root{--bg:#fff;--ink:#1a2027;--dim:#5a6672;--rule:#d5dce3;--card:#f6f8fa;--idle:#e6ebf0;--busy:#1f6fb8;--wait:#a85a00;--wake:#7b8794;--own:#b5179e;--bad:#c62828;--link:#0b5cad;--first:#0d3b66;--second:#3d8fd9}
+<html lang=\"en\"><head><meta charset=\"utf-8\"><meta http-equiv=\"Content-Security-Policy\" content=\"default-src 'none'; style-src 'sha256-sip7+UoGoZ79djHYE/oeIHztqR5M2fLuBbYURmESh3o='; script-src 'sha256-euTDfX1UqSQFr1eJLdcZIO/1nLsHNjzxguHtjCaItWo='\"><meta name=\"viewport\" content=\"width=device-width, initial-scale=1\"><meta name=\"color-scheme\" content=\"light dark\"><title>taskscope</title><style>:root{--bg:#fff;--ink:#1a2027;--dim:#5a6672;--rule:#d5dce3;--card:#f6f8fa;--idle:#e6ebf0;--busy:#1f6fb8;--wait:#a85a00;--wake:#7b8794;--own:#b5179e;--bad:#c62828;--link:#0b5cad;--first:#0d3b66;--second:#3d8fd9}
 @media (prefers-color-scheme:dark){:root{--bg:#11161c;--ink:#e4e9ee;--dim:#9aa7b4;--rule:#2b353f;--card:#19212a;--idle:#25303b;--busy:#4fa3e8;--wait:#ffa53d;--wake:#8796a5;--own:#f06fd8;--bad:#ff6b61;--link:#7fc0ff;--first:#cfe6ff;--second:#2f7cc4}}
 *{box-sizing:border-box}
 body{margin:0;background:var(--bg);color:var(--ink);font:15px/1.45 system-ui,'Segoe UI','DejaVu Sans',sans-serif}
@@ -75,6 +75,7 @@ td dl{margin:0}
 .in{min-width:230px;font-size:12px;font-weight:400;color:var(--dim)}
 #step{position:absolute;z-index:2;max-width:420px;background:var(--ink);color:var(--bg);border-radius:4px;padding:3px 9px;font-size:13px;pointer-events:none}
 .at{fill:var(--ink);fill-opacity:.18;pointer-events:none}.at.span{fill-opacity:.1;stroke:var(--ink)}#span button{font:inherit}.narrow tbody td:nth-child(6),.narrow tbody td:nth-child(7),.narrow tbody td:nth-child(10){color:var(--dim);font-style:italic}#table svg.total,#table svg.strip{cursor:crosshair}svg[tabindex]:focus-visible{outline:2px solid var(--link);outline-offset:1px}
+@media(min-width:701px) and (max-width:1240px){th,td{padding:4px 5px}.course{width:40%;min-width:190px}#table td:nth-child(4),#table td:nth-child(5){min-width:106px}}
 @media(max-width:700px){header,main{padding:0 12px}.scroll{overflow:visible}.scroll.wide{overflow-x:auto}#table,#table caption,#table thead,#table tbody,#table th,#table td{display:block}#table thead tr{display:none}#table thead tr.sum{display:block}tr.sum td:last-child{display:none}.lead{text-align:left}
 #table tbody tr{display:grid;grid-template-columns:repeat(3,1fr);padding:6px 0;border-bottom:1px solid var(--rule)}#table tbody tr[hidden]{display:none}#table tbody th,#table tbody td{border:0;padding:2px 4px;min-width:0;max-width:none}
 #table tbody th{grid-column:1/3}#table tbody td:nth-child(2){text-align:right}#table tbody .course{grid-column:1/-1;width:auto}#table tbody td:nth-child(n+7){display:none}#table tbody .num{text-align:left}svg.bar{display:none}.in{min-width:0}

@@ -15,7 +15,7 @@ ghost use Rattle.tk_page.specs.declared.picture.Whom.{Whom};
 ghost use Rattle.tk_page.specs.declared.picture.Whom.TheVariants as parts;
 ghost use Rattle.tk_page.specs.declared.sample.Sample.{Sample};
 ghost use Rattle.tk_page.specs.declared.sample.Step.{Step};
-ghost use Rattle.tk_page.specs.declared.strips.Boxes.{Boxes};
+ghost use Rattle.tk_page.specs.declared.boxes.Boxes.{Boxes};
 
 /// After the head of a page a reader of HTML stands between tags, not in a tag, in a value, or in a style or a script. The end of a page begins
 /// with a tag, and closes what it opens.

@@ -5,10 +5,11 @@ ghost use Rattle.tk_paper.specs.Pieces.{Writes};
 
 use crate::blame::Charge;
 use crate::blamed::Blamed;
+use crate::boxes::{Area, open_drawing, put_box};
 use crate::figures::{Scale, mean, share};
 use crate::sample::Step;
 use crate::sites::put_site_text;
-use crate::strips::{Area, Height, open_drawing, put_box, waited_in};
+use crate::strips::{Height, waited_in};
 use std::alloc::{AllocError, Global};
 use tk_odd::Held;
 use tk_paper::Part::{

@@ -4,8 +4,8 @@ ghost use Rattle.tk_paper.specs.Pieces.{Writes};
 ghost use Rattle.tk_page.specs.PollTimes as spec;
 ghost use Rattle.tk_sites.specs.Below.{shown_at, times_at as times_in};
 
+use crate::boxes::{Area, put_box};
 use crate::figures::share;
-use crate::strips::{Area, put_box};
 use std::alloc::AllocError;
 use tk_paper::Part::{Close, End, Number, Open, Quote, Span, Text, Value, With, WithNumber};
 use tk_paper::{Attr, Paper, Tag};

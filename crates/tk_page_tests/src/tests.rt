@@ -101,9 +101,15 @@ fn the_picture_has_a_scale(rt: HostRuntime) {
 #[test]
 fn a_strip_has_the_numbers_of_its_steps(rt: HostRuntime) {
     let strip = "preserveAspectRatio=\"none\" data-steps=\"0,200,500,9,4;\" role=\"img\"";
-    assert!(rt; shows(rt.alloc(), POLLED, strip, "data-steps=\"\""));
+    assert!(rt;
+        shows(rt.alloc(), POLLED, strip, "data-steps=\"\""),
+        "the task's strip"
+    );
     let all = "preserveAspectRatio=\"none\" data-steps=\"0,500,0,0;\" role=\"img\"";
-    assert!(rt; shows(rt.alloc(), POLLED, all, "data-steps=\"\""));
+    assert!(rt;
+        shows(rt.alloc(), POLLED, all, "data-steps=\"\""),
+        "the strip of all tasks"
+    );
 }
 
 // A task that polled an operation on a semaphore at 40, which is 30 from the left. It is woken or not, and the semaphore has so many permits.
@@ -126,8 +132,14 @@ fn an_idle_task_says_what_it_waits_for(rt: HostRuntime) {
     let odd = "</small><div class=\"badges\"";
     let awaited =
         "<div class=\"in\">in Semaphore::acquire, wants -12\u{202f}345 · Semaphore 1.1, permits 0 MB · since 30\u{a0}ns</div></th>";
-    assert!(rt; waits_show(rt.alloc(), false, 0, awaited, odd));
-    assert!(rt; waits_show(rt.alloc(), true, 0, "Semaphore::acquire", "class=\"in\""));
+    assert!(rt;
+        waits_show(rt.alloc(), false, 0, awaited, odd),
+        "the task says what it waits for"
+    );
+    assert!(rt;
+        waits_show(rt.alloc(), true, 0, "Semaphore::acquire", "class=\"in\""),
+        "a woken task doesn't say it"
+    );
 }
 
 #[test]
@@ -166,8 +178,14 @@ fn a_stream_without_lines_has_a_page_without_items(rt: HostRuntime) {
     let none =
         "<b>0</b> tasks · <b>0</b> resources · <b>0</b> operations · <b>0</b> lines over <b data-v=\"0\">0\u{a0}ns</b></p>";
     let no_line = "<p class=\"now\">No line came: this page knows nothing of any task.</p>";
-    assert!(rt; shows(rt.alloc(), b"", none, "<tr id="));
-    assert!(rt; shows(rt.alloc(), b"", no_line, "class=\"count\""));
+    assert!(rt;
+        shows(rt.alloc(), b"", none, "<tr id="),
+        "no item is counted or listed"
+    );
+    assert!(rt;
+        shows(rt.alloc(), b"", no_line, "class=\"count\""),
+        "the page says that no line came"
+    );
 }
 
 // A stream, and a line at 3 s.
@@ -187,8 +205,14 @@ fn later_shows(alloc: Global, stream: &[u8], text: &str, not: &str) -> bool {
 
 #[test]
 fn who_holds_up_others_now_stands_above_all_else(rt: HostRuntime) {
-    assert!(rt; later_shows(rt.alloc(), HELD_UP, BANNER, "No line came"));
-    assert!(rt; later_shows(rt.alloc(), HELD_UP, CARD, "class=\"fine\""));
+    assert!(rt;
+        later_shows(rt.alloc(), HELD_UP, BANNER, "No line came"),
+        "the banner at the top"
+    );
+    assert!(rt;
+        later_shows(rt.alloc(), HELD_UP, CARD, "class=\"fine\""),
+        "the card of the finding"
+    );
 }
 
 #[test]
@@ -240,14 +264,26 @@ fn titled_shows(alloc: Global, text: &str) -> Option<bool> {
 
 #[test]
 fn a_page_has_its_title_escaped(rt: HostRuntime) {
-    assert!(rt; titled_shows(rt.alloc(), "<h1>h&lt;b&gt;&amp;&quot;&#39;</h1>") == Some(true));
-    assert!(rt; shows(rt.alloc(), POLLED, "<h1>taskscope</h1>", "id=\"sites\""));
+    assert!(rt;
+        titled_shows(rt.alloc(), "<h1>h&lt;b&gt;&amp;&quot;&#39;</h1>") == Some(true),
+        "the title is escaped"
+    );
+    assert!(rt;
+        shows(rt.alloc(), POLLED, "<h1>taskscope</h1>", "id=\"sites\""),
+        "without a title it is taskscope"
+    );
 }
 
 #[test]
 fn a_longer_poll_accuses_nobody(rt: HostRuntime) {
-    assert!(rt; accuses(rt.alloc(), 2_000_000_000) == Some(true));
-    assert!(rt; accuses(rt.alloc(), 2_000_000_001) == Some(false));
+    assert!(rt;
+        accuses(rt.alloc(), 2_000_000_000) == Some(true),
+        "a poll of the limit is long"
+    );
+    assert!(rt;
+        accuses(rt.alloc(), 2_000_000_001) == Some(false),
+        "a poll below the limit is not long"
+    );
 }
 
 // Takes so many bytes, and then gives an error.
@@ -288,10 +324,10 @@ fn keeps_the_front(alloc: Global, page: &[u8], room: usize) -> bool {
 #[test]
 fn a_writer_that_fails_keeps_the_front_that_it_took(rt: HostRuntime) {
     let Some((page, warnings)) = page_of(rt.alloc(), POLLED) else {
-        assert!(rt; false);
+        assert!(rt; false, "the whole page is written");
         return;
     };
-    assert!(rt; warnings == 0);
+    assert!(rt; warnings == 0, "nothing is warned of");
     for room in [0usize, 1, 1000] {
         assert!(rt;
             keeps_the_front(rt.alloc(), page.as_slice(), room),
@@ -327,10 +363,16 @@ fn keeps(alloc: Global, count: u64, every: u64, many: usize) -> bool {
 
 #[test]
 fn a_course_keeps_each_kth_number(rt: HostRuntime) {
-    assert!(rt; keeps(rt.alloc(), 0, 1, 0));
-    assert!(rt; keeps(rt.alloc(), 64, 1, 64));
-    assert!(rt; keeps(rt.alloc(), 65, 2, 33));
-    assert!(rt; keeps(rt.alloc(), 1000, 16, 63));
+    assert!(rt; keeps(rt.alloc(), 0, 1, 0), "of no number none is kept");
+    assert!(rt;
+        keeps(rt.alloc(), 64, 1, 64),
+        "up to 64 each number is kept"
+    );
+    assert!(rt; keeps(rt.alloc(), 65, 2, 33), "of 65 each second is kept");
+    assert!(rt;
+        keeps(rt.alloc(), 1000, 16, 63),
+        "of 1000 each 16th is kept"
+    );
 }
 
 // The same, where numbers that aren't kept are passed over.

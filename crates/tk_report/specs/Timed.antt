@@ -57,14 +57,19 @@ bucket_words percent longest bucket = codes " p" ++ decimal percent ++ (codes " 
 abbrev pub percentile_words : ℕ → List ℕ → ℕ → List ℕ
 percentile_words longest counts percent = option_map_or (bucket_words percent longest) (percentile_of percent counts) []
 
--- what a histogram says, after a word that says of what: how many it counts, up to 2^64 - 1, the longest, and three percentiles where it counts any
-abbrev pub histogram_words : List ℕ → ℕ → List ℕ → List ℕ
-histogram_words word longest counts =
+-- what a histogram says, after a word that says of what: how many it counts, up to 2^64 - 1, the longest after the words of that, and three
+-- percentiles where it counts any
+abbrev pub histogram_words_by : List ℕ → List ℕ → ℕ → List ℕ → List ℕ
+histogram_words_by word by longest counts =
     word ++ decimal (capped (total_of counts))
-    ++ (codes " longest " ++ decimal longest
+    ++ (by ++ decimal longest
     ++ (percentile_words longest counts 50
     ++ (percentile_words longest counts 90
     ++ percentile_words longest counts 99)))
+
+-- the same of a histogram whose longest time is known
+abbrev pub histogram_words : List ℕ → ℕ → List ℕ → List ℕ
+histogram_words word longest counts = histogram_words_by word (codes " longest ") longest counts
 
 -- ---- lines
 

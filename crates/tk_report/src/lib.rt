@@ -5,7 +5,7 @@
 //!   [`view_stream_with`], [`TimesOptions`], [`Viewed`]: with what is known of how long polls ran.
 //! - [`Ended`]: how long a poll is known to have run, by two rows of its task.
 //! - [`laws`]: what warning lines tell of.
-//! - [`put_task`]: the line of a task. [`put_task_lines`]: with its histograms below it. [`put_histogram`]: what a histogram says.
+//! - [`put_task`]: the line of a task. [`put_task_lines`]: with its histograms below it. [`put_histogram`], [`put_histogram_by`]: what a histogram says.
 //!   [`percentile_high`]: what so many of a hundred of its times don't pass.
 //! - [`kind_word`], [`task_state`], [`op_state`], [`run_time`]: what a report says of a task and of an async operation.
 //! - [`VERSION`]: that of the program.
@@ -29,7 +29,7 @@ pub use options::TimesOptions;
 pub use reporting::report;
 pub use runs::Ended;
 pub use timed::{put_task_lines, timed_report_with};
-pub use times::{percentile_high, put_histogram};
+pub use times::{percentile_high, put_histogram, put_histogram_by};
 pub use tk_fault::AppFault;
 pub use version::VERSION;
 pub use view::{View, Viewed, view_stream, view_stream_with};

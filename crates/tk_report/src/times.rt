@@ -153,8 +153,26 @@ fn put_total(out: &mut String, word: &str, counts: &[u64; 14]) -> Result<(), All
     put(out, word, &total_of(counts))
 }
 
-/// Puts what a histogram says, after a word that says of what: how many times it counts, the longest, and where it counts any three percentiles.
-/// `AllocError`: there was no memory, and a front of it was put.
+/// Puts what a histogram says, after a word that says of what: how many times it counts, the longest after your words of it, and where it counts any
+/// three percentiles. `AllocError`: there was no memory, and a front of it was put.
+pub fn put_histogram_by(
+    out: &mut String,
+    word: &str,
+    by: &str,
+    longest: u64,
+    counts: &[u64; 14],
+) -> Result<(), AllocError>
+    ensures { OnOk result (Puts (string_bytes out.old) (string_bytes out.new) (spec.histogram_words_by word.now by.now longest counts.now)) }
+{
+    put_total(out, word, counts)?;
+    put(out, by, &longest)?;
+    put_percentile(out, longest, counts, 50)?;
+    put_percentile(out, longest, counts, 90)?;
+    put_percentile(out, longest, counts, 99)?;
+    Ok(())
+}
+
+/// The same of a histogram whose longest time is known. `AllocError`: there was no memory, and a front of it was put.
 pub fn put_histogram(
     out: &mut String,
     word: &str,
@@ -163,12 +181,7 @@ pub fn put_histogram(
 ) -> Result<(), AllocError>
     ensures { OnOk result (Puts (string_bytes out.old) (string_bytes out.new) (spec.histogram_words word.now longest counts.now)) }
 {
-    put_total(out, word, counts)?;
-    put(out, " longest ", &longest)?;
-    put_percentile(out, longest, counts, 50)?;
-    put_percentile(out, longest, counts, 90)?;
-    put_percentile(out, longest, counts, 99)?;
-    Ok(())
+    put_histogram_by(out, word, " longest ", longest, counts)
 }
 
 fn put_times(out: &mut String, times: &PollTimes) -> Result<(), AllocError>

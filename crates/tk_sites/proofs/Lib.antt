@@ -10,3 +10,5 @@ pub mod SumLemmas
 pub mod TotalLemmas
 pub mod TimedTotals
 pub mod TimedNames
+pub mod SpanLemmas
+pub mod SpanViewLemmas

@@ -18,6 +18,12 @@ pub mod Lines
 pub mod One
 -- What the view of a stream by place writes
 pub mod Views
+-- What places came to within a span of a stream
+pub mod Span
+-- The text of places within a span
+pub mod SpanLines
+-- What the view of a span by place writes
+pub mod SpanViews
 -- What the laws say of places
 pub mod Laws
 -- What the laws say of the histograms of places

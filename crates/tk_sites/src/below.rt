@@ -52,8 +52,8 @@ fn times_at(times: &Limited<SiteTimes>, index: usize) -> Option<SiteTimes>
     }
 }
 
-// The same, if histograms are shown.
-fn shown_at(times: &Option<Limited<SiteTimes>>, index: usize) -> Option<SiteTimes>
+/// The same, if histograms are shown.
+pub(crate) fn shown_at(times: &Option<Limited<SiteTimes>>, index: usize) -> Option<SiteTimes>
     ensures { result ≡ spec.shown_at times.now index }
 {
     match times {

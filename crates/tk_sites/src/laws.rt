@@ -11,6 +11,7 @@ ghost use Rattle.tk_series.specs.Limited.{Begins, all_shown, names_of};
 ghost use Rattle.tk_sites.specs.Laws.{AddsUpRows, AreSteady, most, over_all, sites_after, tasks_came, tasks_left};
 ghost use Rattle.tk_sites.specs.Lines.{listed};
 ghost use Rattle.tk_sites.specs.Sites.{sites_of, sites_until};
+ghost use Rattle.tk_sites.specs.Span.{sums_since};
 ghost use Rattle.tk_sites.specs.TimedLaws.{all_times, polls_in, site_polls, site_waits, waits_in};
 ghost use Rattle.tk_sites.specs.TimedSites.{timed_sites};
 ghost use Rattle.tk_sites.specs.declared.sums.Sums.{Sums};
@@ -59,4 +60,9 @@ pub fn times_stand_with_sums()
 pub fn lasting_sums_stand_with_sums()
     ensures { (shown : List TablesView) (tables : TablesView) (warnings : List AnyWarning)
         → names_of (sites_until shown tables).first ≡ names_of (sites_of shown tables warnings).first }
+{}
+
+/// What a place had come to and what it came to since then is what it comes to at the end. That holds of its polls as long as these only grow.
+pub fn spans_add_up()
+    ensures { (old now : Sums) → old.polls ≤ now.polls → old.polls + (sums_since old now).polls ≡ now.polls }
 {}

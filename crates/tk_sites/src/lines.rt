@@ -125,7 +125,8 @@ fn put_site(out: &mut Vec<u8>, site: &[u8]) -> Result<(), AllocError>
     put(out, b"\n")
 }
 
-fn put_line(
+/// Puts the line of a place.
+pub(crate) fn put_line(
     out: &mut Vec<u8>,
     alloc: Global,
     number: u64,
@@ -341,7 +342,8 @@ fn put_more_warnings(
     }
 }
 
-fn put_all_warnings(
+/// Puts the lines of warnings of all places.
+pub(crate) fn put_all_warnings(
     out: &mut Vec<u8>,
     alloc: Global,
     sites: &Limited<Sums>,

@@ -1,5 +1,6 @@
 //! What is added up of the tasks of a place.
 ghost use Rattle.std.specs.Prelude.{◌≡◌};
+ghost use Rattle.tk_sites.specs.Span as span;
 ghost use Rattle.tk_sites.specs.Sums as spec;
 
 use crate::warned::Warnings;
@@ -65,6 +66,27 @@ impl Added for Sums {
             sched: self.sched.saturating_add(more.sched),
             waited: self.waited.saturating_add(more.waited),
             warnings: self.warnings.with(more.warnings),
+        }
+    }
+}
+
+impl Sums {
+    /// What the tasks came to since they had come to this: each sum that only grows is less by what it was, and never below 0.
+    ///
+    /// How many are in each state, how many came, how many left, and who is warned of stays as it is now.
+    pub fn since(self, old: Sums) -> Sums
+        ensures { result ≡ span.sums_since old self }
+    {
+        Sums {
+            polls: self.polls.saturating_sub(old.polls),
+            wakes: self.wakes.saturating_sub(old.wakes),
+            own: self.own.saturating_sub(old.own),
+            clones: self.clones.saturating_sub(old.clones),
+            drops: self.drops.saturating_sub(old.drops),
+            busy: self.busy.saturating_sub(old.busy),
+            sched: self.sched.saturating_sub(old.sched),
+            waited: self.waited.saturating_sub(old.waited),
+            ..self
         }
     }
 }

@@ -21,8 +21,8 @@ use tk_fault::AppFault;
 use tk_reading::{Both, MAX_LINE, read_stream};
 use tk_stream::send;
 
-// The warnings of a client's tables.
-fn warned_in(
+/// The warnings of a client's tables.
+pub(crate) fn warned_in(
     alloc: Global,
     client: &Client,
     lints: &Lints,

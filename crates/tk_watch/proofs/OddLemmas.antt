@@ -1,5 +1,5 @@
 -- What was seen of the lines of bytes.
-use Rattle.std.proofs.Common.{◌≡◌, ℕ, zero, suc, ◌-◌, ◌≤◌, nat_le, nat_lt, ◌||◌, List, [], ◌∷◌, ◌++◌, length, take, Bool, true, false, cond, Option, Some, None, Result, Ok, Err, OnOk, refl, ap, ap₂, sym, ◌∙◌, append_assoc, append-nil, arith, subst}
+use Rattle.std.proofs.Common.{◌≡◌, ℕ, zero, suc, ◌-◌, ◌≤◌, nat_le, nat_lt, ◌||◌, List, [], ◌∷◌, ◌++◌, length, map, take, Bool, true, false, cond, Option, Some, None, Result, Ok, Err, OnOk, refl, ap, ap₂, sym, ◌∙◌, append_assoc, append-nil, arith, subst}
 use Rattle.std.specs.List.{fold}
 use Rattle.std.specs.Option.{option_map}
 use Rattle.std.proofs.lemmas.List.Sums.{fold-append}
@@ -18,8 +18,10 @@ use Rattle.tk_sites.specs.declared.sums.Sums.{Sums}
 use Rattle.tk_frame.specs.Findings.{OddView}
 use Rattle.tk_frame.specs.Places.{PlaceRow, RecentView, recent_since}
 use Rattle.tk_frame.specs.declared.recent.Earlier.{Earlier}
-use Rattle.tk_odd.specs.Diagnosis.{standing_of}
-use Rattle.tk_odd.specs.Findings.{Placed, findings_of}
+use Rattle.tk_odd.specs.declared.finding.Found.{Found}
+use Rattle.tk_odd.specs.Diagnosis.{Standing, standing_of}
+use Rattle.tk_odd.specs.Findings.{Placed, Told, findings_of, placed, told, told_of, with_whom}
+use Rattle.tk_odd.specs.Victims.{Pairs}
 use Rattle.tk_odd.specs.Inner.{Follows}
 use Rattle.tk_sites.specs.Inner.{Follows as FollowsSites}
 use Rattle.tk_reading.specs.Fronts.{IsFront, Rise, last_lines, lines_in}
@@ -36,7 +38,7 @@ use Rattle.tk_watch.specs.Waits.{waits_after}
 use Rattle.tk_watch.specs.Watching.{TakesTo}
 use Rattle.tk_watch.specs.declared.seen.Course.{Course}
 use Rattle.tk_watch.specs.Lasts.{last_of}
-use Rattle.tk_watch.specs.Recent.{Noted, earlier_of, has_fallen, is_due, last_old, noted_of, nothing, recent_after, still, with_line}
+use Rattle.tk_watch.specs.Recent.{Noted, again_at, earlier_of, has_fallen, is_due, last_old, noted_of, nothing, recent_after, still, with_line}
 use Rattle.tk_watch.specs.declared.notes.Notes.{Notes}
 use Rattle.tk_watch.specs.declared.seen.Seen.{Seen}
 
@@ -176,13 +178,13 @@ not_fallen (Some last) now e = first (nat_lt now last) (nat_le 100000000 (now - 
 pub notes_none : (lints : LintsView) (noted : Noted) (t : TablesView) (n : Notes) → is_due noted.last t.now ≡ false → Keeps noted n → Keeps (with_line lints noted t) n
 notes_none lints noted t n none k = record {
   last = k.last ∙ ap (λ (b : Bool). cond b (Some t.now) noted.last) (sym none);
-  again = k.again ∙ ap (λ (b : Bool). b || noted.again) (sym (not_fallen noted.last t.now none));
+  again = k.again ∙ ap (λ (b : Bool). cond b (Some t.now) noted.again) (sym (not_fallen noted.last t.now none));
   notes = k.notes ∙ ap (λ (b : Bool). last_of 64 (cond b (still noted.last t.now noted.notes ++ earlier_of lints (noted.came ++ t ∷ []) t ∷ []) noted.notes)) (sym none);
 }
 
 -- a line after which it is noted what places have come to
 pub notes_one : (lints : LintsView) (noted : Noted) (t : TablesView) (new : Notes) (e : Earlier) (notes : List Earlier) → is_due noted.last t.now ≡ true
-    → e ≡ earlier_of lints (noted.came ++ t ∷ []) t → new.last ≡ Some t.now → new.again ≡ (has_fallen noted.last t.now || noted.again) → notes ≡ still noted.last t.now noted.notes → new.list.items ≡ last_of 64 (notes ++ e ∷ [])
+    → e ≡ earlier_of lints (noted.came ++ t ∷ []) t → new.last ≡ Some t.now → new.again ≡ again_at noted.last t.now noted.again → notes ≡ still noted.last t.now noted.notes → new.list.items ≡ last_of 64 (notes ++ e ∷ [])
     → Keeps (with_line lints noted t) new
 notes_one lints noted t new e notes due is last again stay pushed = record {
   last = last ∙ ap (λ (b : Bool). cond b (Some t.now) noted.last) (sym due);
@@ -209,20 +211,33 @@ sees_more lints shown tables old new (Ok done) s follows limits first sites wait
 }
 sees_more lints shown tables old new (Err e) s follows limits first sites waits notes = tt
 
--- findings, places, and the time that lines span
-abbrev pub odd_with : List Placed → List PlaceRow → Option RecentView → List ℕ → Bool → Option ℕ → OddView
-odd_with findings places recent waits again span =
-    record { findings = findings; places = places; recent = recent; waits = waits; again = again; span = span; long = 100000000 }
+-- the findings of those that are told with who waited for them
+found_of_told : (xs : List Found) → map placed xs ≡ map (λ (t : Told). t.0) (map told xs)
+found_of_told [] = refl
+found_of_told (x ∷ xs) = ap (λ (ys : List Placed). placed x ∷ ys) (found_of_told xs)
 
-odd_same : (f g : List Placed) (p q : List PlaceRow) (r u : Option RecentView) (v w : List ℕ) (m n : Bool) (s t : Option ℕ) → f ≡ g → p ≡ q → r ≡ u → v ≡ w → m ≡ n → s ≡ t
-    → odd_with f p r v m s ≡ odd_with g q u w n t
-odd_same f g p q r u v w m n s t a b c d h e =
-    ap (λ (x : List Placed). odd_with x p r v m s) a
-    ∙ ap (λ (x : List PlaceRow). odd_with g x r v m s) b
-    ∙ ap (λ (x : Option RecentView). odd_with g q x v m s) c
-    ∙ ap (λ (x : List ℕ). odd_with g q u x m s) d
-    ∙ ap (λ (x : Bool). odd_with g q u w x s) h
-    ∙ ap (odd_with g q u w n) e
+told_are : (pairs : Pairs) (xs : List Placed) → map (λ (t : Told). t.0) (map (with_whom pairs) xs) ≡ xs
+told_are pairs [] = refl
+told_are pairs (x ∷ xs) = ap (λ (ys : List Placed). x ∷ ys) (told_are pairs xs)
+
+pub found_is : (limits : Limits) (d : Standing) (tables : TablesView) (xs : List Found) → map told xs ≡ told_of limits d tables → map placed xs ≡ findings_of limits d tables
+found_is limits d tables xs same = found_of_told xs ∙ ap (map (λ (t : Told). t.0)) same ∙ told_are d.pairs (findings_of limits d tables)
+
+-- findings, places, and the time that lines span
+abbrev pub odd_with : List Placed → List Told → List PlaceRow → Option RecentView → List ℕ → Option ℕ → Option ℕ → OddView
+odd_with findings whom places recent waits again span =
+    record { findings = findings; told = whom; places = places; recent = recent; waits = waits; again = again; span = span; long = 100000000 }
+
+odd_same : (f g : List Placed) (k l : List Told) (p q : List PlaceRow) (r u : Option RecentView) (v w : List ℕ) (m n : Option ℕ) (s t : Option ℕ) → f ≡ g → k ≡ l → p ≡ q → r ≡ u → v ≡ w → m ≡ n → s ≡ t
+    → odd_with f k p r v m s ≡ odd_with g l q u w n t
+odd_same f g k l p q r u v w m n s t a o b c d h e =
+    ap (λ (x : List Placed). odd_with x k p r v m s) a
+    ∙ ap (λ (x : List Told). odd_with g x p r v m s) o
+    ∙ ap (λ (x : List PlaceRow). odd_with g l x r v m s) b
+    ∙ ap (λ (x : Option RecentView). odd_with g l q x v m s) c
+    ∙ ap (λ (x : List ℕ). odd_with g l q u x m s) d
+    ∙ ap (λ (x : Option ℕ). odd_with g l q u w x s) h
+    ∙ ap (odd_with g l q u w n) e
 
 -- what places came to in the last while
 pub recent_is : (lints : LintsView) (shown : List TablesView) (seen : Seen) (now : ℕ) (ps qs : List PlaceRow) → Sees lints shown seen → ps ≡ qs
@@ -231,13 +246,16 @@ recent_is lints shown seen now ps qs s same =
     ap₂ (λ (notes : List Earlier) (xs : List PlaceRow). option_map (λ e. recent_since e now xs) (last_old now notes)) s.notes.notes same
 
 -- what is odd about tables to which its lines came, and their places
-pub odd_is : (lints : LintsView) (shown : List TablesView) (seen : Seen) (tables : TablesView) (findings : List Placed) (places : List PlaceRow) (recent : Option RecentView) (waits : List ℕ) (again : Bool) (span : Option ℕ)
+pub odd_is : (lints : LintsView) (shown : List TablesView) (seen : Seen) (tables : TablesView) (found : List Found) (places : List PlaceRow) (recent : Option RecentView) (waits : List ℕ) (again : Option ℕ) (span : Option ℕ)
     → Sees lints shown seen
-    → findings ≡ findings_of seen.diagnosis.limits (standing_of seen.diagnosis.limits shown) tables → places ≡ places_after lints shown tables
+    → map told found ≡ told_of seen.diagnosis.limits (standing_of seen.diagnosis.limits shown) tables → places ≡ places_after lints shown tables
     → recent ≡ recent_after lints shown tables.now (places_after lints shown tables) → waits ≡ seen.waits.items → again ≡ seen.notes.again → span ≡ span_to tables.now seen.first
-    → odd_with findings places recent waits again span ≡ odd_after lints shown tables
-odd_is lints shown seen tables findings places recent waits again span s found placed lately waited started spans =
-    odd_same findings _ places _ recent _ waits _ again _ span _ (found ∙ ap (λ (l : Limits). findings_of l (standing_of l shown) tables) s.limits) placed lately (waited ∙ s.waits) (started ∙ s.notes.again) (spans ∙ ap (span_to tables.now) s.first)
+    → odd_with (map placed found) (map told found) places recent waits again span ≡ odd_after lints shown tables
+odd_is lints shown seen tables found places recent waits again span s is placed_there lately waited started spans =
+    let limits = seen.diagnosis.limits in
+    odd_same (map placed found) _ (map told found) _ places _ recent _ waits _ again _ span _
+    (found_is limits (standing_of limits shown) tables found is ∙ ap (λ (l : Limits). findings_of l (standing_of l shown) tables) s.limits)
+    (is ∙ ap (λ (l : Limits). told_of l (standing_of l shown) tables) s.limits) placed_there lately (waited ∙ s.waits) (started ∙ s.notes.again) (spans ∙ ap (span_to tables.now) s.first)
 
 -- it has seen the tables of what was shown after each line
 abbrev pub sees_in : LintsView → List Timed → Seen → Type 0

@@ -6,7 +6,7 @@ use Rattle.tk_client.specs.Warnings.{LintsView}
 use Rattle.tk_frame.specs.Findings.{OddView}
 use Rattle.tk_frame.specs.Places.{PlaceRow, places_in}
 use Rattle.tk_odd.specs.Diagnosis.{standing_of}
-use Rattle.tk_odd.specs.Findings.{findings_of}
+use Rattle.tk_odd.specs.Findings.{findings_of, told_of}
 use Rattle.tk_reading.specs.Fronts.{lines_in, tables_in}
 use Rattle.tk_reading.specs.Outcomes.{outcome_of}
 use Rattle.tk_reading.specs.Shown.{last_timed, shown_of, timed_of}
@@ -34,11 +34,12 @@ first_moment (t ∷ ts) = Some t.now
 abbrev pub places_after : LintsView → List TablesView → TablesView → List PlaceRow
 places_after lints shown tables = places_in (sites_until shown tables) (standing_of (limits_of lints) shown).places.0
 
--- what is odd about tables to which these lines came, and their places, with what these came to in the last 5 seconds; how many tasks
--- waited at each of the last lines; and whether the service was started again
+-- what is odd about tables to which these lines came, with who waited longest for it, and their places, with what these came to in the last 5 seconds; how many
+-- tasks waited at each of the last lines; and when the service was started again
 abbrev pub odd_after : LintsView → List TablesView → TablesView → OddView
 odd_after lints shown tables = record {
   findings = findings_of (limits_of lints) (standing_of (limits_of lints) shown) tables;
+  told = told_of (limits_of lints) (standing_of (limits_of lints) shown) tables;
   places = places_after lints shown tables;
   recent = recent_after lints shown tables.now (places_after lints shown tables);
   waits = waits_after shown;

@@ -24,20 +24,24 @@ earlier_of lints shown tables = record {
 
 -- ---- what is noted
 
--- the lines that came, the moment of the last note, whether the service was started again, and what was noted since of what places had come to
+-- the lines that came, the moment of the last note, that of the first line since the service was started again, if it was, and what was noted since of what places had come to
 pub record Noted : Type 0 where
   pub came : List TablesView
   pub last : Option ℕ
-  pub again : Bool
+  pub again : Option ℕ
   pub notes : List Earlier
 
 abbrev pub nothing : Noted
-nothing = record { came = []; last = None; again = false; notes = [] }
+nothing = record { came = []; last = None; again = None; notes = [] }
 
 -- a moment that is before the last note: the service was started again
 abbrev pub has_fallen : Option ℕ → ℕ → Bool
 has_fallen None now = false
 has_fallen (Some last) now = nat_lt now last
+
+-- the moment of the first line since the service was started again, if it was: this line, or as before
+abbrev pub again_at : Option ℕ → ℕ → Option ℕ → Option ℕ
+again_at last now again = if has_fallen last now then Some now else again
 
 -- it is noted after the first line, and then after each that is 100 milliseconds or more later than the last note, or before it
 abbrev pub is_due : Option ℕ → ℕ → Bool
@@ -53,7 +57,7 @@ abbrev pub with_line : LintsView → Noted → TablesView → Noted
 with_line lints n t = record {
   came = n.came ++ t ∷ [];
   last = if is_due n.last t.now then Some t.now else n.last;
-  again = has_fallen n.last t.now || n.again;
+  again = again_at n.last t.now n.again;
   notes = if is_due n.last t.now then still n.last t.now n.notes ++ earlier_of lints (n.came ++ t ∷ []) t ∷ [] else n.notes;
 }
 

@@ -1,5 +1,5 @@
 //! What places had come to at some of the last lines.
-ghost use Rattle.std.specs.Prelude.{◌≡◌, ◌++◌, ◌∷◌, ◌||◌, [], None, List, IfOk, OnOk, map};
+ghost use Rattle.std.specs.Prelude.{◌≡◌, ◌++◌, ◌∷◌, [], None, List, IfOk, OnOk, map};
 ghost use Rattle.std.specs.Option.{option_map};
 ghost use Rattle.tk_client.specs.Warnings.{LintsView};
 ghost use Rattle.tk_frame.specs.Places.{recent_of as view_of, recent_since, row_of};
@@ -29,8 +29,8 @@ const WHILE: u64 = 5_000_000_000;
 pub(crate) struct Notes {
     // The moment of the last note.
     last: Option<u64>,
-    // Whether the service was started again.
-    again: bool,
+    // The moment of the first line since the service was started again, if it was.
+    again: Option<u64>,
     list: Vec<Earlier>,
 }
 
@@ -96,7 +96,7 @@ impl Notes {
     {
         Notes {
             last: None,
-            again: false,
+            again: None,
             list: Vec::new(alloc),
         }
     }
@@ -105,11 +105,11 @@ impl Notes {
     fn forget(&mut self, now: u64)
         ensures list { (noted : spec.Noted) → self.old.list.items ≡ last_of 64 noted.notes
             → self.new.list.items ≡ last_of 64 (spec.still self.old.last now noted.notes) }
-        ensures again { self.new.again ≡ (spec.has_fallen self.old.last now || self.old.again) }
+        ensures again { self.new.again ≡ spec.again_at self.old.last now self.old.again }
         ensures last { self.new.last ≡ self.old.last }
     {
         if has_fallen(self.last, now) {
-            self.again = true;
+            self.again = Some(now);
             self.list.clear();
         }
     }
@@ -136,8 +136,8 @@ impl Notes {
         Ok(())
     }
 
-    /// Whether the service was started again.
-    pub fn again(&self) -> bool
+    /// The moment of the first line since the service was started again, if it was.
+    pub fn again(&self) -> Option<u64>
         ensures { result ≡ self.now.again }
     {
         self.again

@@ -71,14 +71,14 @@ impl Seen {
         Ok(places)
     }
 
-    /// What is odd about the tables of the last line, and their places, with what these came to in the last while.
+    /// What is odd about the tables of the last line, with who waited longest for it, and their places, with what these came to in the last while.
     pub fn odd(&self, alloc: Global, tables: &Tables) -> Result<Odd, AllocError>
         ensures { (lints : LintsView) (shown : List TablesView) → spec.Sees lints shown self.now
             → IfOk result (λ odd. odd ≡ odd_after lints shown tables.now) }
     {
         let now = tables.now();
         let span = self.span_to(now);
-        let findings = self.diagnosis.findings(alloc, tables)?;
+        let findings = self.diagnosis.findings_with_victims(alloc, tables)?;
         let places = self.places(alloc, tables)?;
         let recent = self.notes.recent(alloc, now, places.as_slice())?;
         let waits = Vec::from_slice(alloc, self.waits.as_slice())?;

@@ -18,7 +18,7 @@ use std::time::Duration;
 /// How much of a service's stream a command reads.
 #[derive(Clone, Copy, Debug, PartialEq, Eq)]
 pub enum Extent {
-    /// The first line, which tells all that is now.
+    /// The first line, which says all that is now.
     Now,
     /// All lines until the connection ends, or an interrupt.
     UntilEnd,
@@ -46,9 +46,10 @@ fn has(words: &[OsString], option: &str) -> bool {
 }
 
 /// Options of `watch`, `metrics`, `page` and `compare` whose value may be a word of its own.
-const WITH_VALUE: [&str; 14] = [
+const WITH_VALUE: [&str; 17] = [
     "--self-wake-percent",
     "--never-yielded-ns",
+    "--never-yielded",
     "--sort",
     "--rows",
     "--filter",
@@ -59,6 +60,8 @@ const WITH_VALUE: [&str; 14] = [
     "--long-poll",
     "--title",
     "--until",
+    "--since",
+    "--last",
     "--more-than",
     "--at-least",
 ];
@@ -102,7 +105,8 @@ fn earlier_names(words: &[OsString]) -> usize {
     usize::from(words.get(1).map_or(false, |command| command == "compare"))
 }
 
-/// The first word that names a socket, or else the file that is to be followed; and its place. A file that is none, as a pipe, is left to the program.
+/// The first word that names a socket, or else the file that is to be followed; and its place. A file that is none, as a pipe, is
+/// left to the program.
 fn named_in(words: &[OsString]) -> Option<(usize, Source)> {
     let mut names = names_in(words).skip(earlier_names(words));
     let socket = names.find_map(|(place, word)| Some((place, Source::Socket(Address::of(word)?))));
@@ -113,8 +117,8 @@ fn named_in(words: &[OsString]) -> Option<(usize, Source)> {
     })
 }
 
-/// Opens the socket or the file to follow that a word names, makes its lines standard input, and takes the word away, and the option to follow with it.
-/// It answers whether there was a socket. No thread may have been started.
+/// Opens the socket or the file to follow that a word names, makes its lines standard input, and takes the word away, and the
+/// option to follow with it. It answers whether there was a socket. No thread may have been started.
 ///
 /// # Errors
 /// What the system says of it, after the word. Then the words and the input are as they were.

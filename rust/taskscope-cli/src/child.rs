@@ -19,11 +19,11 @@ extern "C" fn pass_on(signal: c_int) {
     unsafe { c::kill(CHILD.load(Ordering::SeqCst), signal) };
 }
 
-/// Returns in a child, which has the terminal. This process waits for it, gives the terminal back, and ends as the child did. No thread may have
-/// been started.
+/// Returns in a child, which has the terminal. This process waits for it, gives the terminal back, and ends as the child did. No
+/// thread may have been started.
 ///
-/// A signal that ends the child, or this process by `SIGTERM` or `SIGHUP`, leaves the terminal as it was; so does a stop. Only `SIGKILL` of this
-/// process can't: then the child ends, too.
+/// A signal that ends the child, or this process by `SIGTERM` or `SIGHUP`, leaves the terminal as it was; so does a stop. Only
+/// `SIGKILL` of this process can't: then the child ends, too.
 pub fn go_on_in_child(mut screen: Screen) {
     match fork() {
         Ok(Some(parent)) => exit(parent.attend(&mut screen)),
@@ -83,7 +83,8 @@ impl Parent {
 
     fn hear_signals(&self) {
         CHILD.store(self.child, Ordering::SeqCst);
-        // SAFETY: the handlers only call `kill` and `write`. The terminal sends the others to the child as well: what becomes of it shows what to do.
+        // SAFETY: the handlers only call `kill` and `write`. The terminal sends the others to the child as well: what becomes of
+        // it shows what to do.
         unsafe {
             for signal in [c::SIGINT, c::SIGQUIT, c::SIGTSTP, c::SIGTTIN, c::SIGTTOU] {
                 c::signal(signal, c::SIG_IGN);

@@ -10,7 +10,8 @@ use std::time::Duration;
 /// How long it waits before it looks again whether there is more.
 const PAUSE: Duration = Duration::from_millis(100);
 
-/// The bytes of a file, and those that are appended to it later. They end when another file has its name, or when it is shorter than what was read.
+/// The bytes of a file, and those that are appended to it later. They end when another file has its name, or when it is shorter
+/// than what was read.
 #[derive(Debug)]
 pub struct Growing {
     path: PathBuf,

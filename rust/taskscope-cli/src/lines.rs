@@ -15,8 +15,8 @@ impl<R: Read> Lines<R> {
         Lines { reader: BufReader::with_capacity(1 << 16, connection) }
     }
 
-    /// The next line, with its end, or `None` at the end of the connection, however that ends. What stands after the last line end is no line, and
-    /// neither is what is longer than any reader takes.
+    /// The next line, with its end, or `None` at the end of the connection, however that ends. What stands after the last line
+    /// end is no line, and neither is what is longer than any reader takes.
     pub fn next_line(&mut self) -> Option<Vec<u8>> {
         let mut line = Vec::new();
         match self.reader.by_ref().take(LONGEST).read_until(b'\n', &mut line) {
@@ -50,7 +50,8 @@ fn as_snapshot(line: Vec<u8>) -> Vec<u8> {
     }
 }
 
-/// Writes lines so that their numbers rise by one, whatever numbers they have: those of a service that was started anew go on after those before.
+/// Writes lines so that their numbers rise by one, whatever numbers they have: those of a service that was started anew go on
+/// after those before.
 #[derive(Default)]
 pub struct Numbering {
     next: Option<u64>,

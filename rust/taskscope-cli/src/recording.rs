@@ -8,7 +8,8 @@ use std::sync::{Arc, Mutex, MutexGuard, PoisonError, Weak};
 use std::thread;
 use std::time::{Duration, Instant};
 
-/// How many bytes of one connection are kept, and for how long. A service's first line tells all, so a younger connection can take its place.
+/// How many bytes of one connection are kept, and for how long. A service's first line says all, so a younger connection can
+/// take its place.
 const MOST: usize = 64 << 20;
 const LONGEST: Duration = Duration::from_secs(1200);
 /// How often it is looked whether a younger connection is wanted.
@@ -65,7 +66,8 @@ pub struct Recordings {
 }
 
 impl Recordings {
-    /// Records a service, on threads of its own, for as long as this process runs. When the service ends, what came stays until it starts anew.
+    /// Records a service, on threads of its own, for as long as this process runs. When the service ends, what came stays until
+    /// it starts anew.
     ///
     /// # Errors
     /// What the system says of the first connection.

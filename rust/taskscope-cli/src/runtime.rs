@@ -1,5 +1,6 @@
-//! What the proved program calls beside the C library, as `calls.txt` lists it. The toolchain has the same functions in C, for glibc on x86-64
-//! alone. The contracts are those on which the program's proof stands. A `&[u8]` or `&mut [u8]` there is a pointer and a length here.
+//! What the proved program calls beside the C library, as `calls.txt` lists it. The toolchain has the same functions in C, for
+//! glibc on x86-64 alone. The contracts are those on which the program's proof stands. A `&[u8]` or `&mut [u8]` there is a
+//! pointer and a length here.
 
 use crate::c;
 use std::env;
@@ -116,8 +117,8 @@ unsafe extern "C" fn rattle_dealloc(block: *mut u8) {
     c::free(block.cast());
 }
 
-/// Which instructions the processor has, as glibc's `__x86_get_cpuid_feature_leaf` answers it since 2.33: so an older glibc will do, and musl. The
-/// archive calls it by another name.
+/// Which instructions the processor has, as glibc's `__x86_get_cpuid_feature_leaf` answers it since 2.33: so an older glibc will
+/// do, and musl. The archive calls it by another name.
 #[cfg(target_arch = "x86_64")]
 mod processor {
     use std::arch::x86_64::__cpuid;

@@ -1,5 +1,5 @@
-//! The terminal as a watch draws on it: lines that are longer than it is wide don't wrap, and at keys there is a screen of its own. What was there
-//! before comes back.
+//! The terminal as a watch draws on it: lines that are longer than it is wide don't wrap, and at keys there is a screen of its
+//! own. What was there before comes back.
 
 use crate::c;
 use crate::keys::Terminal;
@@ -14,9 +14,9 @@ const WRAP: &[u8] = b"\x1b[?7h";
 const OWN: &[u8] = b"\x1b[?1049h";
 const SHARED: &[u8] = b"\x1b[?1049l";
 
-/// Asks the terminal how many lines and columns it has: the cursor is sent to the last of both, asked where it stands, and put back. The terminal answers
-/// as if somebody typed `ESC [ LINES ; COLUMNS R`, so the proved program hears it among its keys. `ESC [ 18 t` would ask for both, but tmux 3.3
-/// answers with lines and columns exchanged.
+/// Asks the terminal how many lines and columns it has: the cursor is sent to the last of both, asked where it stands, and put
+/// back. The terminal answers as if somebody typed `ESC [ LINES ; COLUMNS R`, so the proved program hears it among its keys. `ESC
+/// [ 18 t` would ask for both, but tmux 3.3 answers with lines and columns exchanged.
 const ASK_SIZE: &[u8] = b"\x1b7\x1b[9999;9999H\x1b[6n\x1b8";
 
 /// Whether the watch has the terminal, and hears its size.

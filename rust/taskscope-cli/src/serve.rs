@@ -165,7 +165,7 @@ fn made_by(words: &[&str], stream: Vec<u8>) -> io::Result<Vec<u8>> {
         .spawn()?;
     let feeding = child.stdin.take().map(|mut input| thread::spawn(move || input.write_all(&stream)));
     let output = child.wait_with_output()?;
-    // A command that stops at a fault doesn't read all: its status tells.
+    // A command that stops at a fault doesn't read all: its status says so.
     drop(feeding.map(|feeding| feeding.join()));
     match output.status.code() {
         Some(0 | 3) => Ok(output.stdout),

@@ -1,15 +1,18 @@
-//! A task that starves the others: on two workers, `json-index` computes for 30 milliseconds each 100, and eight clients that want
-//! to run each 5 milliseconds wait for it where they stand behind it.
+//! A task that starves the others: on one worker, `json-index` computes for 30 milliseconds each 100, and eight clients wait for
+//! it meanwhile. A thread hands each client a request each 5 milliseconds, as a client behind a network does: it knows nothing of
+//! who runs.
 //!
 //! It prints what it measured by itself: of each task how many polls ran, the longest, and percentiles, all in nanoseconds; and the same of
 //! how long it waited for them, each time from the first wake on. `taskscope view --times` is to tell the same of both, and
-//! `taskscope lint --long-poll 20` to warn of `json-index` alone.
+//! `taskscope lint --long-poll 20ms` to warn of `json-index` alone.
 
 use std::future::Future;
 use std::pin::Pin;
 use std::sync::{Arc, Mutex};
 use std::task::{Context, Poll, Wake, Waker};
+use std::thread;
 use std::time::{Duration, Instant};
+use tokio::sync::Notify;
 use tokio::time::sleep;
 
 /// Since when a task waits for a poll.
@@ -65,10 +68,18 @@ async fn index(until: Instant) {
     }
 }
 
-async fn client(until: Instant) {
+async fn client(requests: Arc<Notify>, until: Instant) {
     while Instant::now() < until {
-        sleep(Duration::from_millis(5)).await;
+        requests.notified().await;
         compute(Duration::from_micros(50));
+    }
+}
+
+/// Hands each client a request each 5 milliseconds, until none is left that holds `requests`.
+fn hand_out(requests: &Arc<Notify>) {
+    while Arc::strong_count(requests) > 1 {
+        thread::sleep(Duration::from_millis(5));
+        requests.notify_waiters();
     }
 }
 
@@ -89,9 +100,12 @@ fn print(word: &str, name: &str, what: &str, times: &Mutex<Vec<u128>>) {
 
 fn main() -> std::io::Result<()> {
     taskscope_subscriber::init();
-    let runtime = tokio::runtime::Builder::new_multi_thread().worker_threads(2).enable_time().build()?;
+    let runtime = tokio::runtime::Builder::new_multi_thread().worker_threads(1).enable_time().build()?;
     let until = Instant::now() + Duration::from_secs(3);
     let mut measured = Vec::new();
+    let requests = Arc::new(Notify::new());
+    let of_thread = Arc::clone(&requests);
+    let handing = thread::spawn(move || hand_out(&of_thread));
     runtime.block_on(async {
         let mut joins = Vec::new();
         for number in 0..9 {
@@ -99,7 +113,7 @@ fn main() -> std::io::Result<()> {
             let since = Arc::new(Mutex::new(Some(Instant::now())));
             let name = if number == 0 { "json-index".to_owned() } else { format!("client-{number}") };
             let work: Pin<Box<dyn Future<Output = ()> + Send>> =
-                if number == 0 { Box::pin(index(until)) } else { Box::pin(client(until)) };
+                if number == 0 { Box::pin(index(until)) } else { Box::pin(client(Arc::clone(&requests), until)) };
             let task = Measured { work: Box::pin(work), since, runs: Arc::clone(&runs), waits: Arc::clone(&waits) };
             joins.push(tokio::task::Builder::new().name(&name).spawn(task)?);
             measured.push((name, runs, waits));
@@ -109,6 +123,8 @@ fn main() -> std::io::Result<()> {
         }
         Ok::<(), std::io::Error>(())
     })?;
+    drop(requests);
+    handing.join().expect("no panic");
     for (name, runs, waits) in measured {
         print("mine", &name, "polls", &runs);
         print("waits", &name, "waits", &waits);

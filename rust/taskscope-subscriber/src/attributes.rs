@@ -1,4 +1,4 @@
-//! The attributes of resources and operations, which tokio tells one by one once the item is made.
+//! The attributes of resources and operations, which tokio reports one by one once the item is made.
 //!
 //! A row has its attributes from its beginning, so they have to be known by the item's type. Those of tokio's own types stand in a
 //! table here. Of another type an attribute is learned by its first change: the items that are made later have it.
@@ -83,7 +83,7 @@ impl Types {
         }
     }
 
-    /// From now on items of this type begin with the attribute that an update names, where they can.
+    /// From now on items of this type begin with the attribute that an update names, if they can.
     pub(crate) fn learn(&self, name: &str, update: &UpdateFields) {
         let first = match update.value {
             Some(Value::U64(_)) => NONE,
@@ -105,8 +105,8 @@ impl Types {
 
 /// The value of an attribute, so that no change leaves the range of its kind.
 ///
-/// tokio tells of a change after the change itself. Where one thread gives permits back and another one takes them, the second may
-/// be told first, and the sum is below 0 for a moment. The exact sum is kept here, and the row has the nearest value to it.
+/// tokio reports a change after the change itself. If one thread gives permits back and another one takes them, the second may
+/// be reported first, and the sum is below 0 for a moment. The exact sum is kept here, and the row has the nearest value to it.
 #[derive(Debug)]
 struct Slot {
     value: Value,
@@ -223,22 +223,22 @@ mod tests {
     #[test]
     fn a_sum_that_is_told_out_of_order_comes_right() {
         let mut permits = Types::of_resources().begin("Semaphore").1;
-        let mut told = |how, value: u64| permits.update(&update("permits", how, value));
-        assert_eq!(told(How::Sub, 1), Update::Clamped(Change::set(0u64)));
-        assert_eq!(told(How::Add, 3), Update::Clamped(Change::set(2u64)));
-        assert_eq!(told(How::Add, 3), Update::Change(Change::add(3u64)));
-        assert_eq!(told(How::Add, u64::MAX), Update::Clamped(Change::set(u64::MAX)));
-        assert_eq!(told(How::Set, 7), Update::Change(Change::set(7u64)));
-        assert_eq!(told(How::Sub, 7), Update::Change(Change::sub(7u64)));
+        let mut updated = |how, value: u64| permits.update(&update("permits", how, value));
+        assert_eq!(updated(How::Sub, 1), Update::Clamped(Change::set(0u64)));
+        assert_eq!(updated(How::Add, 3), Update::Clamped(Change::set(2u64)));
+        assert_eq!(updated(How::Add, 3), Update::Change(Change::add(3u64)));
+        assert_eq!(updated(How::Add, u64::MAX), Update::Clamped(Change::set(u64::MAX)));
+        assert_eq!(updated(How::Set, 7), Update::Change(Change::set(7u64)));
+        assert_eq!(updated(How::Sub, 7), Update::Change(Change::sub(7u64)));
     }
 
     #[test]
     fn signed_sums_stay_in_range() {
         let mut readers = Types::of_resources().begin("RwLock").1;
-        let mut told = |how, value: i64| readers.update(&update("current_readers", how, value));
-        assert_eq!(told(How::Sub, 1), Update::Change(Change::sub(1i64)));
-        assert_eq!(told(How::Add, i64::MIN), Update::Clamped(Change::set(i64::MIN)));
-        assert_eq!(told(How::Add, 1), Update::Change(Change::set(i64::MIN)).clamped());
+        let mut updated = |how, value: i64| readers.update(&update("current_readers", how, value));
+        assert_eq!(updated(How::Sub, 1), Update::Change(Change::sub(1i64)));
+        assert_eq!(updated(How::Add, i64::MIN), Update::Clamped(Change::set(i64::MIN)));
+        assert_eq!(updated(How::Add, 1), Update::Change(Change::set(i64::MIN)).clamped());
     }
 
     impl Update {

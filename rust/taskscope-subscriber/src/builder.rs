@@ -1,7 +1,7 @@
-//! What is told, how often, and where it goes.
+//! What is recorded, how often, and where it goes.
 
 use crate::direct::Direct;
-use crate::layer::{is_of_tokio, is_told, Items, Switch, TaskscopeLayer};
+use crate::layer::{is_of_tokio, is_recorded, Items, Switch, TaskscopeLayer};
 use crate::output::Output;
 use crate::publishing::{keep_until_exit, Guard, Plan};
 use crate::rootless::Rootless;
@@ -18,7 +18,7 @@ use tracing_subscriber::filter::filter_fn;
 use tracing_subscriber::layer::{Layer, SubscriberExt};
 use tracing_subscriber::registry::Registry;
 
-/// What is told of a program, how often, and where it goes.
+/// What is recorded of a program, how often, and where it goes.
 #[derive(Clone, Debug)]
 pub struct Builder {
     output: Option<Output>,
@@ -60,7 +60,7 @@ fn named(words: impl AsRef<OsStr>) -> io::Result<Output> {
     })
 }
 
-/// The value of a variable, where it is set and not empty.
+/// The value of a variable, if it is set and not empty.
 fn variable(name: &str) -> io::Result<Option<String>> {
     match env::var(name) {
         Ok(value) if value.is_empty() => Ok(None),
@@ -137,16 +137,16 @@ impl Builder {
         Builder { output: Some(output), ..self }
     }
 
-    /// How long it is from one line to the next: 100 milliseconds without this. A span of 0 is refused by what starts the layer. With
-    /// [`Duration::MAX`] there is only the first line and the last. A line comes earlier while a recorder is half full, and a line in
-    /// which nothing changed is left out, but for one in a second.
+    /// How long it is from one line to the next: 100 milliseconds without this. A span of 0 is refused by what starts the layer.
+    /// With [`Duration::MAX`] there is only the first line and the last. A line comes earlier while a recorder is half full. A
+    /// line in which nothing changed is left out, except one in a second.
     pub fn interval(self, interval: Duration) -> Builder {
         Builder { interval, ..self }
     }
 
-    /// How many bytes a file has at most, but for its last line: without this, and with `None`, it grows for as long as the program
-    /// runs. Then it is kept under its name with `.1` after it, in the place of what had this name, and is begun anew with a line that
-    /// tells all. A file whose first line is longer than half of that has twice the length of this line.
+    /// How many bytes a file has at most, but for its last line: without this, and with `None`, it grows for as long as the
+    /// program runs. Then it is kept under its name with `.1` after it, in the place of what had this name. The new one begins
+    /// with a line that says all. A file whose first line is longer than half of that has twice the length of this line.
     pub fn max_bytes(self, max_bytes: impl Into<Option<u64>>) -> Builder {
         Builder { max_bytes: max_bytes.into(), ..self }
     }
@@ -177,19 +177,19 @@ impl Builder {
         self
     }
 
-    /// Whether a histogram is kept of how long each task's polls ran, and lines tell it: so it is without this.
+    /// Whether a histogram is kept of how long each task's polls ran, and lines have it: so it is without this.
     pub fn times(mut self, times: bool) -> Builder {
         self.settings.times = times;
         self
     }
 
-    /// Whether it is counted of each task how long it waited in all, and lines tell it: so it is without this.
+    /// Whether it is counted of each task how long it waited in all, and lines have it: so it is without this.
     pub fn waits(mut self, waits: bool) -> Builder {
         self.settings.waits = waits;
         self
     }
 
-    /// Which items are told: tasks alone without this.
+    /// Which items are recorded: tasks alone without this.
     pub fn items(self, items: Items) -> Builder {
         Builder { items, ..self }
     }
@@ -199,7 +199,7 @@ impl Builder {
         Builder { polls, ..self }
     }
 
-    /// A layer that the switch turns on, and what publishes what it tells.
+    /// A layer that the switch turns on, and what publishes what it records.
     fn open(self, switch: &Switch) -> io::Result<(TaskscopeLayer, Plan)> {
         if self.interval.is_zero() {
             let what = "the interval from one line to the next is 0";
@@ -211,7 +211,7 @@ impl Builder {
         Ok((layer, plan))
     }
 
-    /// A layer to stand beside others, and the guard of the thread that publishes what it tells. `output` is where the lines go, in
+    /// A layer to stand beside others, and the guard of the thread that publishes what it records. `output` is where the lines go, in
     /// the place of what [`output`](Builder::output) said.
     ///
     /// The subscriber with the layer is to be wrapped in [`Rootless`], and a filter of other layers must not turn off what
@@ -238,15 +238,14 @@ impl Builder {
         Ok((layer, plan.start(&output)?))
     }
 
-    /// Makes a layer the subscriber of the whole program, and publishes until the process ends by `exit` or by the end of `main`,
-    /// which waits 2 seconds at most for the last line. If there is no output, nothing is installed.
+    /// Makes a layer the subscriber of the whole program, and publishes until the process ends by `exit` or by the end of `main`.
+    /// The end waits 2 seconds at most for the last line. If there is no output, nothing is installed.
     ///
     /// A program that logs by `tracing` has a subscriber already: see [`init_with`](Builder::init_with).
     ///
-    /// # Errors
-    /// [`InvalidInput`](ErrorKind::InvalidInput) for an interval of 0, and [`AlreadyExists`](ErrorKind::AlreadyExists) if the program
-    /// has a subscriber already: then nothing is opened. If the output can't be opened, as the text says with its path, or the thread
-    /// can't be started, the subscriber stays, hears nothing, and costs nothing.
+    /// # Errors [`InvalidInput`](ErrorKind::InvalidInput) for an interval of 0, and [`AlreadyExists`](ErrorKind::AlreadyExists)
+    /// if the program has a subscriber already: then nothing is opened. If the output can't be opened, the text says so with its
+    /// path. Then, or if the thread can't be started, the subscriber stays, hears nothing, and costs nothing.
     pub fn init(mut self) -> io::Result<()> {
         let output = match self.output.take() {
             Some(output) => output,
@@ -288,9 +287,9 @@ impl Builder {
             None => return install(logs),
         };
         let switch = Switch::off();
-        let told = is_told(self.items, switch.clone());
+        let recorded = is_recorded(self.items, switch.clone());
         let (layer, plan) = self.open(&switch)?;
-        install(Rootless(logs.with(layer.with_filter(filter_fn(told)))))?;
+        install(Rootless(logs.with(layer.with_filter(filter_fn(recorded)))))?;
         publish_until_exit(plan, &output, &switch)
     }
 }

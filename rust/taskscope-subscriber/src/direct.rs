@@ -45,7 +45,7 @@ fn is_handle(id: u64) -> bool {
 }
 
 impl Direct {
-    /// The subscriber by which a layer alone is told of tokio's spans and events.
+    /// The subscriber by which a layer alone hears of tokio's spans and events.
     pub fn new(layer: TaskscopeLayer) -> Direct {
         Direct { layer: layer.alone(), plan: Plan::default(), spans: Spans::default() }
     }
@@ -63,7 +63,7 @@ impl Subscriber for Direct {
     }
 
     fn max_level_hint(&self) -> Option<LevelFilter> {
-        // All that tokio tells is of this level.
+        // All that tokio reports is of this level.
         Some(LevelFilter::TRACE)
     }
 

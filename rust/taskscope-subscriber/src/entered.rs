@@ -78,7 +78,7 @@ thread_local! {
         const { RefCell::new(Entered::NEW) };
 }
 
-/// Calls with what this thread entered. Where the thread is ending, or this is called within itself, nothing is called.
+/// Calls with what this thread entered. If the thread is ending, or this is called within itself, nothing is called.
 #[inline]
 pub(crate) fn with<R>(call: impl FnOnce(&mut Entered) -> R) -> Option<R> {
     ENTERED.try_with(|entered| entered.try_borrow_mut().ok().map(|mut entered| call(&mut entered))).ok().flatten()

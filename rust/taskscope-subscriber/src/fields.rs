@@ -68,7 +68,7 @@ pub(crate) fn shortened(file: &str) -> &str {
 /// A place in the sources, of which parts may be missing.
 #[derive(Debug, Default, PartialEq, Eq)]
 pub(crate) struct Place {
-    /// As tokio tells it.
+    /// As tokio reports it.
     pub(crate) file: String,
     pub(crate) line: u32,
     pub(crate) column: u32,
@@ -160,7 +160,7 @@ impl Visit for TaskFields {
 #[derive(Debug, Default)]
 pub(crate) struct ItemFields {
     kind: String,
-    pub(crate) concrete: String,
+    pub(crate) type_name: String,
     pub(crate) source: String,
     pub(crate) inherits: bool,
     pub(crate) place: Place,
@@ -170,7 +170,7 @@ impl ItemFields {
     /// Forgets all, and keeps the room.
     pub(crate) fn clear(&mut self) {
         self.kind.clear();
-        self.concrete.clear();
+        self.type_name.clear();
         self.source.clear();
         self.inherits = false;
         self.place.clear();
@@ -189,7 +189,7 @@ impl ItemFields {
     fn text(&mut self, field: &Field) -> Option<&mut String> {
         match field.name() {
             "kind" => Some(&mut self.kind),
-            "concrete_type" => Some(&mut self.concrete),
+            "concrete_type" => Some(&mut self.type_name),
             "source" => Some(&mut self.source),
             "loc.file" => Some(&mut self.place.file),
             _ => None,

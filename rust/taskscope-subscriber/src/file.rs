@@ -22,7 +22,7 @@ extern "C" {
 /// `LOCK_EX` and `LOCK_NB` of Linux: the lock for one process, or an error at once.
 const LOCK: c_int = 2 | 4;
 
-/// Locks a file for this process, for as long as it is open. Where the file system has no locks, nothing is locked.
+/// Locks a file for this process, for as long as it is open. If the file system has no locks, nothing is locked.
 fn lock(file: &File) -> io::Result<()> {
     // SAFETY: the descriptor is open while it is lent.
     if unsafe { flock(file.as_raw_fd(), LOCK) } == 0 {
@@ -87,7 +87,7 @@ pub(crate) struct Rewindable {
     first_len: u64,
     /// The length from which on it is begun anew.
     most: Option<u64>,
-    /// Whether the next line tells all, as it is the first of the file that is begun anew.
+    /// Whether the next line says all, as it is the first of the file that is begun anew.
     begins_anew: bool,
     state: Writing,
     notice: Notice,
@@ -125,7 +125,7 @@ impl Rewindable {
         })
     }
 
-    /// Whether it is begun anew by the next line that tells all. At least half of a file are other lines.
+    /// Whether it is begun anew by the next line that says all. At least half of a file are other lines.
     fn is_full(&self) -> bool {
         self.most.map_or(false, |most| self.len >= most.max(2 * self.first_len))
     }
@@ -168,7 +168,7 @@ impl Target for Rewindable {
         match self.state {
             Writing::Goes if self.begins_anew => Wants::All(self.next),
             Writing::Goes => Wants::Changes,
-            // Only a line that tells all follows lines that were lost, and it has the number of the first of them.
+            // Only a line that says all follows lines that were lost, and it has the number of the first of them.
             Writing::Lost { retry, .. } if is_last || Instant::now() >= retry => Wants::All(self.next),
             Writing::Lost { .. } | Writing::Ended => Wants::Nothing,
         }

@@ -1,4 +1,4 @@
-//! Whether tokio tells of any task, and if not, why.
+//! Whether tokio reports any task, and if not, why.
 
 use crate::item::lock;
 use crate::layer::TaskscopeLayer;
@@ -11,18 +11,18 @@ use tracing_core::{LevelFilter, Metadata};
 
 /// How long a filter has that turns tokio's spans off, until it is said.
 const CERTAIN: Duration = Duration::from_secs(1);
-/// How long a program has that tells of no task, until it is said.
+/// How long a program has that reports no task, until it is said.
 const LIKELY: Duration = Duration::from_secs(5);
 
 const UNFLAGGED: &str =
-    "nothing is told of tokio, as the program is built without `--cfg tokio_unstable`. Build it anew with \
+    "nothing is recorded of tokio, as the program is built without `--cfg tokio_unstable`. Build it anew with \
     RUSTFLAGS=\"--cfg tokio_unstable\"";
 
 const FILTERED: &str =
-    "nothing is told of tokio, as a filter of the subscriber turns its spans off. Give each layer a filter of its own \
+    "nothing is recorded of tokio, as a filter of the subscriber turns its spans off. Give each layer a filter of its own \
     by `with_filter`, or let the filter pass `tokio=trace,runtime=trace`";
 
-const UNHEARD: &str = "tokio has told of no task. If the program has one, tokio needs its feature `tracing` in Cargo.toml, and no filter \
+const UNHEARD: &str = "tokio has reported no task. If the program has one, tokio needs its feature `tracing` in Cargo.toml, and no filter \
     may turn off `tokio=trace,runtime=trace`";
 
 /// What a layer has heard of tasks.
@@ -34,7 +34,7 @@ pub(crate) struct Heard {
     is_said: AtomicBool,
 }
 
-/// Says it if the program is built without the flag by which tokio tells anything.
+/// Says it if the program is built without the flag by which tokio reports anything.
 pub(crate) fn say_if_unflagged() {
     static SAID: Once = Once::new();
     if cfg!(not(tokio_unstable)) {
@@ -58,7 +58,7 @@ impl Heard {
 
     /// Whether a filter turns off spans of tasks, for certain.
     fn is_filtered(self: &Arc<Heard>) -> bool {
-        // Where it is off for all, there is no subscriber yet, or no longer.
+        // If it is off for all, there is no subscriber yet, or no longer.
         let level = LevelFilter::current();
         if level != LevelFilter::OFF && level < LevelFilter::TRACE {
             return true;

@@ -1,4 +1,4 @@
-//! What a span is told as.
+//! What a span is recorded as.
 
 use crate::attributes::{Types, Update, Values};
 use crate::fields::UpdateFields;
@@ -14,7 +14,7 @@ pub(crate) fn lock<T>(mutex: &Mutex<T>) -> MutexGuard<'_, T> {
     mutex.lock().unwrap_or_else(PoisonError::into_inner)
 }
 
-/// A span that is told of. Threads may hold it for longer than the span lives.
+/// A span that is recorded. Threads may hold it for longer than the span lives.
 #[derive(Debug)]
 pub(crate) struct Item {
     is_closed: AtomicBool,
@@ -144,7 +144,7 @@ impl<T: Owner> Part<T> {
     }
 }
 
-/// A resource that is told.
+/// A resource that is recorded.
 #[derive(Debug)]
 pub(crate) struct Resource(pub(crate) Part<taskscope::Resource>);
 
@@ -172,7 +172,7 @@ impl Resource {
     }
 }
 
-/// An async operation that is told.
+/// An async operation that is recorded.
 #[derive(Debug)]
 pub(crate) struct Op {
     pub(crate) part: Part<taskscope::Op>,

@@ -7,7 +7,7 @@ use crate::heard::{say_if_unflagged, Heard};
 use crate::item::{Item, Op, Part, Resource, What};
 use crate::left_out::LeftOut;
 use crate::mark;
-use crate::places::{Places, Told};
+use crate::places::{Places, Site};
 use crate::task::{Polls, Task};
 use std::fmt;
 use std::sync::atomic::{AtomicBool, AtomicU64, Ordering};
@@ -20,12 +20,12 @@ use tracing_core::{Event, Metadata, Subscriber};
 use tracing_subscriber::layer::{Context, Layer};
 use tracing_subscriber::registry::{LookupSpan, SpanRef};
 
-/// Which items are told.
+/// Which items are recorded.
 #[derive(Clone, Copy, Debug, Default, PartialEq, Eq)]
 #[non_exhaustive]
 pub enum Items {
-    /// Tasks alone. A lock or a channel costs what it costs without the layer, as tokio's spans of resources and operations are turned
-    /// off, for other layers too.
+    /// Tasks alone. A lock or a channel costs what it costs without the layer. tokio's spans of resources and operations are
+    /// turned off, for other layers too.
     #[default]
     Tasks,
     /// Tasks, resources and async operations. A lock or a channel costs many times as much, and each makes two items.
@@ -58,9 +58,9 @@ impl Switch {
     }
 }
 
-/// A filter for a layer that stands beside others, which lets pass what it tells of.
-pub(crate) fn is_told(items: Items, switch: Switch) -> impl Fn(&Metadata<'_>) -> bool {
-    move |metadata| switch.is_on() && Source::of(metadata).is_told(items)
+/// A filter for a layer that stands beside others, which lets pass what it records.
+pub(crate) fn is_recorded(items: Items, switch: Switch) -> impl Fn(&Metadata<'_>) -> bool {
+    move |metadata| switch.is_on() && Source::of(metadata).is_recorded(items)
 }
 
 /// A span's item, as the span's extension.
@@ -121,7 +121,7 @@ impl Source {
     }
 
     #[inline]
-    fn is_told(self, items: Items) -> bool {
+    fn is_recorded(self, items: Items) -> bool {
         match self {
             Source::Task | Source::Waker => true,
             Source::Other => false,
@@ -141,13 +141,13 @@ pub(crate) fn is_of_task(metadata: &Metadata<'_>) -> bool {
     Source::of(metadata) == Source::Task
 }
 
-/// Whether an event tells of a waker.
+/// Whether an event is about a waker.
 #[inline]
 pub(crate) fn is_of_waker(metadata: &Metadata<'_>) -> bool {
     Source::of(metadata) == Source::Waker
 }
 
-/// Tells a console what tokio's spans and events say. A registry has one at most.
+/// Records in a console what tokio's spans and events say. A registry has one at most.
 ///
 /// [`Builder::layer`](crate::Builder::layer) makes one with a console and a thread that publishes. This is for a program that has
 /// both:
@@ -179,7 +179,7 @@ pub struct TaskscopeLayer {
 }
 
 impl TaskscopeLayer {
-    /// A layer that tells this console of tasks, and counts a task's own polls.
+    /// A layer that records tasks in this console, and counts a task's own polls.
     pub fn new(console: &Console) -> TaskscopeLayer {
         static LAST: AtomicU64 = AtomicU64::new(0);
         say_if_unflagged();
@@ -198,7 +198,7 @@ impl TaskscopeLayer {
         }
     }
 
-    /// Which items are told.
+    /// Which items are recorded.
     pub fn items(self, items: Items) -> TaskscopeLayer {
         TaskscopeLayer { items, ..self }
     }
@@ -246,12 +246,12 @@ impl TaskscopeLayer {
         let fields = &mut room.task;
         fields.clear();
         attributes.record(fields);
-        // No waker of what `block_on` runs is told of, so it can't be told from a task that nobody will wake.
+        // tokio reports no waker of what `block_on` runs, so it can't be told from a task that nobody will wake.
         let kind = match fields.kind {
             Kind::Task | Kind::Local => TaskKind::Spawn,
             Kind::BlockOn | Kind::Blocking => TaskKind::Blocking,
         };
-        let Told { text, location } = self.places.tell(&mut entered.places, &fields.place);
+        let Site { text, location } = self.places.site(&mut entered.places, &fields.place);
         let name = if fields.name.is_empty() { text } else { fields.name.clone().into() };
         let shared = self.console.task(name).kind(kind).location(location).open().share();
         entered.give_room(room);
@@ -263,9 +263,9 @@ impl TaskscopeLayer {
         let fields = &mut room.item;
         fields.clear();
         attributes.record(fields);
-        let (name, values) = self.resource_types.begin(&fields.concrete);
+        let (name, values) = self.resource_types.begin(&fields.type_name);
         let parent = entered.innermost(self.number, |item| item.resource().map(|_| Arc::clone(item)));
-        let Told { location, .. } = self.places.tell(&mut entered.places, &fields.place);
+        let Site { location, .. } = self.places.site(&mut entered.places, &fields.place);
         let mut builder = self.console.resource(name.clone()).kind(fields.kind()).location(location);
         if let Some(id) = parent.as_deref().and_then(Item::resource).and_then(Resource::id) {
             builder = builder.parent(id);
@@ -422,11 +422,11 @@ impl TaskscopeLayer {
         }
     }
 
-    /// Whether a span or an event is to be made. What is of tokio is so where it is told, and all else for other layers.
+    /// Whether a span or an event is to be made. What is of tokio is so if it is recorded, and all else for other layers.
     fn wants(&self, source: Source) -> bool {
         match source {
             Source::Other => !self.is_alone,
-            _ => self.switch.is_on() && source.is_told(self.items),
+            _ => self.switch.is_on() && source.is_recorded(self.items),
         }
     }
 
@@ -434,11 +434,11 @@ impl TaskscopeLayer {
         self.wants(Source::of(metadata))
     }
 
-    /// Makes the item of a span that is told. A task is marked if enters by the handle that tokio holds itself are told from others.
+    /// Makes the item of a span that is recorded. A task is marked if enters by the handle that tokio holds itself are told from others.
     #[inline]
     pub(crate) fn make(&self, source: Source, attributes: &Attributes<'_>, is_marked: bool) -> Option<Arc<Item>> {
         let mut what = None;
-        if source.is_told(self.items) {
+        if source.is_recorded(self.items) {
             self.with_entered(|entered| what = self.new_item(entered, source, attributes, is_marked));
         }
         what.map(Item::new)
@@ -458,7 +458,7 @@ impl TaskscopeLayer {
         number: impl FnOnce(u64) -> u64,
         find: impl FnOnce(u64) -> Option<Arc<Item>>,
     ) {
-        if !source.is_told(self.items) {
+        if !source.is_recorded(self.items) {
             return;
         }
         self.with_entered(|entered| match source {

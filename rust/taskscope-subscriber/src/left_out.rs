@@ -38,7 +38,7 @@ impl LeftOut {
         self.late.get()
     }
 
-    /// Drops and wakes of a waker of which no clone was told, and what a thread said while it ended.
+    /// Drops and wakes of a waker of which tokio reported no clone, and what a thread said while it ended.
     pub fn stray(&self) -> u64 {
         self.stray.get()
     }

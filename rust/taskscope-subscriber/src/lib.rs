@@ -24,7 +24,7 @@
 //! - [`init`] reads the variables, and [`init_with`] does so for a program that logs. [`Builder`] says the same in the program, and
 //!   [`Output`] where lines go.
 //! - [`Direct`] is the subscriber that [`init`] makes: it has tokio's spans alone, and needs no registry.
-//! - [`TaskscopeLayer`] stands beside other layers, with [`Rootless`] around them; [`Items`] and [`Polls`] say what it tells, and
+//! - [`TaskscopeLayer`] stands beside other layers, with [`Rootless`] around them; [`Items`] and [`Polls`] say what it records, and
 //!   [`is_of_tokio`] what it reads. [`Guard`] is the thread that publishes.
 //! - [`LeftOut`] counts what of the program's events no row has.
 //!
@@ -34,7 +34,7 @@
 //! |---|---|---|
 //! | `TASKSCOPE_STREAM` | where lines go: `tcp:HOST:PORT` or `unix:PATH`, to which readers connect; the path of a file or of a pipe (`mkfifo`); or `stderr`. In a path `%p` is the process id | nothing is inspected, and nothing costs more |
 //! | `TASKSCOPE_INTERVAL_MS` | milliseconds from one line to the next, from 1 on | 100 |
-//! | `TASKSCOPE_ITEMS` | `all`: resources and operations are told too, and locks and channels cost many times as much; or `tasks` | `tasks` |
+//! | `TASKSCOPE_ITEMS` | `all`: resources and operations are recorded too, and locks and channels cost many times as much; or `tasks` | `tasks` |
 //! | `TASKSCOPE_TIMES` | `on`: a histogram of how long its polls ran is kept of each task, for `view --times` and `lint --long-poll`; or `off` | `on` |
 //! | `TASKSCOPE_WAITS` | `on`: it is counted of each task how long it waited in all, for `view`, `page` and `watch`; or `off` | `on` |
 //! | `TASKSCOPE_MAX_BYTES` | how many bytes a file has, until it is kept with `.1` after its name and begun anew | a file grows for as long as the program runs |
@@ -43,7 +43,7 @@
 //!
 //! # What becomes of tokio's spans and events
 //!
-//! | tokio says | What is told |
+//! | tokio says | What is recorded |
 //! |---|---|
 //! | a span `runtime.spawn` is made | a task. If it has no name, its place is its name. `task` and `local` are of kind `spawn`, `blocking` and `block_on` of kind `blocking` |
 //! | it is entered and left | a poll starts and ends, if it is one of the task ([`Polls`]) |
@@ -56,7 +56,7 @@
 //! | `poll_op` | a poll operation of the innermost resource |
 //! | `state_update` | a change of an attribute of the innermost item, and of its parent that has `inherits_child_attrs` |
 //!
-//! A resource has its attributes from its beginning, and tokio tells them after it: those of tokio's types are known here, and of
+//! A resource has its attributes from its beginning, and tokio reports them after it: those of tokio's types are known here, and of
 //! any other type an attribute is known from its second item on. Until then its changes count as `unsayable`.
 
 #![deny(missing_docs, unsafe_op_in_unsafe_fn)]
@@ -99,10 +99,9 @@ use tracing_subscriber::layer::Layer;
 use tracing_subscriber::registry::Registry;
 
 /// Inspects the program as the environment says, by the variables in the [head](crate#variables) of this crate. It is the first line
-/// of `main`, as tasks that were spawned before are not told. A program that logs by `tracing` calls [`init_with`] in its place.
+/// of `main`, as tasks that were spawned before are not recorded. A program that logs by `tracing` calls [`init_with`] in its place.
 ///
-/// If that can't be done, as a variable has a wrong value or a file can't be made, it says so on standard error, and the program
-/// goes on without.
+/// If a variable has a wrong value or a file can't be made, it says so on standard error. The program goes on without inspection.
 pub fn init() {
     say_if_failed(Builder::from_env().and_then(Builder::init));
 }

@@ -13,7 +13,7 @@ fn marked(id: &Id) -> Id {
     Id::from_u64(id.into_u64() | MARK)
 }
 
-/// The id without its mark, where it has one.
+/// The id without its mark, if it has one.
 #[inline]
 pub(crate) fn unmarked(id: &Id) -> Option<Id> {
     let number = id.into_u64();

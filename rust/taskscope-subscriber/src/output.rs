@@ -19,15 +19,15 @@ use taskscope::Address;
 #[non_exhaustive]
 pub enum Output {
     /// A file, which is made, and locked (`flock`) for as long as the program runs: another process that wants it is refused. A
-    /// stream that stands there is kept: it gets the file's name with `.1` after it, in the place of what had this name. If a line
-    /// can't be written, as the disk is full, the file keeps the lines before, and a line that tells all follows once there is
+    /// stream that stands there is kept: it gets the file's name with `.1` after it, in the place of what had this name. If a
+    /// line can't be written, as the disk is full, the file keeps the lines before. A line that says all follows once there is
     /// room: tries are 1 second to 1 minute apart.
     File(PathBuf),
-    /// A pipe that `mkfifo` made. A reader may open it at any time; the first line that it gets tells all. So it is with another one
+    /// A pipe that `mkfifo` made. A reader may open it at any time; the first line that it gets says all. So it is with another one
     /// that opens it an interval after the first has gone: one that comes before gets the lines on which the first stopped.
     Pipe(PathBuf),
     /// A unix socket, which is made for its owner alone, and removed at the end. Readers connect and go as they like; the first line that
-    /// each gets tells all.
+    /// each gets says all.
     Socket(PathBuf),
     /// A TCP port, for readers as of a socket, and for requests of HTTP: `/` says what to type. It is one of this machine, unless
     /// [`Builder::limits`](crate::Builder::limits) allows another. Each user of the machine may read.
@@ -145,7 +145,7 @@ pub(crate) fn file_type(path: &Path) -> io::Result<fs::FileType> {
     fs::metadata(path).map(|metadata| metadata.file_type())
 }
 
-/// Says something on standard error, where that is possible.
+/// Says something on standard error, if that is possible.
 pub(crate) fn say(what: impl fmt::Display) {
     let _ = writeln!(io::stderr(), "taskscope: {what}");
 }
@@ -169,7 +169,7 @@ pub(crate) trait Target: Send {
     /// Takes whole lines, as it wanted them.
     fn write(&mut self, lines: &[u8]);
 
-    /// The line that was asked for tells too much, as the text says: nobody takes it.
+    /// The line that was asked for says too much, as the text says: nobody takes it.
     fn refuse(&mut self, _why: &str) {}
 
     /// Hands on what waits for slow readers. The answer is whether something still waits.

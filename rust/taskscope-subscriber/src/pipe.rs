@@ -80,7 +80,7 @@ struct Reader {
     taken: usize,
     /// The number of its next line.
     next: u64,
-    /// Whether its next line is to tell all, as it is new or lost lines.
+    /// Whether its next line is to say all, as it is new or lost lines.
     needs_all: bool,
 }
 
@@ -238,7 +238,7 @@ mod tests {
         assert_eq!(target.wants(false), Wants::All(1), "another one is new");
         target.write(b"all\n");
         drop(target);
-        assert_eq!(all_of(second), "all\n", "what it was told");
+        assert_eq!(all_of(second), "all\n", "what it was sent");
     }
 
     #[test]

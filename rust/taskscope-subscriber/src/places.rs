@@ -13,15 +13,15 @@ const MOST: usize = 4096;
 const RECENT: usize = 64;
 
 /// The places of one file, by lines and columns.
-type OfFile = HashMap<(u32, u32), Told>;
+type OfFile = HashMap<(u32, u32), Site>;
 
-/// The places that were come to, by their files as tokio tells them. Their texts stay.
+/// The places that tasks were spawned at, by their files as tokio reports them. Their texts stay.
 #[derive(Debug, Default)]
 pub(crate) struct Places(RwLock<HashMap<String, OfFile>>);
 
-/// A place as it is told.
+/// A place as lines have it.
 #[derive(Clone, Debug)]
-pub(crate) struct Told {
+pub(crate) struct Site {
     /// `file:line:column`, the name of an item that has none.
     pub(crate) text: Cow<'static, str>,
     pub(crate) location: Location,
@@ -29,7 +29,7 @@ pub(crate) struct Told {
 
 /// The places that a thread came to last, each in the one place that its line gives.
 #[derive(Debug)]
-pub(crate) struct Recent(Vec<Option<(Place, Told)>>);
+pub(crate) struct Recent(Vec<Option<(Place, Site)>>);
 
 impl Recent {
     pub(crate) const NONE: Recent = Recent(Vec::new());
@@ -39,51 +39,51 @@ impl Recent {
         (place.line ^ place.column << 3) as usize % RECENT
     }
 
-    fn keep(&mut self, place: &Place, told: &Told) {
+    fn keep(&mut self, place: &Place, site: &Site) {
         if self.0.is_empty() {
             self.0.resize_with(RECENT, || None);
         }
         let kept = Place { file: place.file.clone(), ..*place };
-        self.0[Recent::place(place)] = Some((kept, told.clone()));
+        self.0[Recent::place(place)] = Some((kept, site.clone()));
     }
 }
 
 impl Places {
-    /// A place as it is told. Its file has no bytes if none was told.
+    /// A place as lines have it. Its file has no bytes if tokio reported none.
     #[inline]
-    pub(crate) fn tell(&self, recent: &mut Recent, place: &Place) -> Told {
-        if let Some(Some((known, told))) = recent.0.get(Recent::place(place)) {
+    pub(crate) fn site(&self, recent: &mut Recent, place: &Place) -> Site {
+        if let Some(Some((known, site))) = recent.0.get(Recent::place(place)) {
             if known == place {
-                return told.clone();
+                return site.clone();
             }
         }
-        let told = self.known(place).unwrap_or_else(|| self.add(place));
-        if let Cow::Borrowed(_) = told.text {
-            recent.keep(place, &told);
+        let site = self.known(place).unwrap_or_else(|| self.add(place));
+        if let Cow::Borrowed(_) = site.text {
+            recent.keep(place, &site);
         }
-        told
+        site
     }
 
-    fn known(&self, place: &Place) -> Option<Told> {
+    fn known(&self, place: &Place) -> Option<Site> {
         let places = self.0.read().unwrap_or_else(PoisonError::into_inner);
         places.get(&place.file)?.get(&(place.line, place.column)).cloned()
     }
 
-    /// Keeps a place, for good, where there is room for it.
-    fn add(&self, place: &Place) -> Told {
+    /// Keeps a place, for good, if there is room for it.
+    fn add(&self, place: &Place) -> Site {
         let file = shortened(&place.file);
         let text = format!("{file}:{}:{}", place.line, place.column);
         let mut places = self.0.write().unwrap_or_else(PoisonError::into_inner);
         if places.values().map(HashMap::len).sum::<usize>() >= MOST {
             let location = Location::new(file.to_owned(), place.line, place.column);
-            return Told { text: Cow::Owned(text), location };
+            return Site { text: Cow::Owned(text), location };
         }
-        let told = || {
+        let site = || {
             let text: &'static str = Box::leak(text.into_boxed_str());
-            Told { text: text.into(), location: Location::new(&text[..file.len()], place.line, place.column) }
+            Site { text: text.into(), location: Location::new(&text[..file.len()], place.line, place.column) }
         };
         let of_file = places.entry(place.file.clone()).or_default();
-        of_file.entry((place.line, place.column)).or_insert_with(told).clone()
+        of_file.entry((place.line, place.column)).or_insert_with(site).clone()
     }
 }
 
@@ -96,10 +96,10 @@ mod tests {
         let (places, mut recent) = (Places::default(), Recent::NONE);
         for _ in 0..2 {
             for line in 0..5000 {
-                let told = places.tell(&mut recent, &Place { file: "src/main.rs".to_owned(), line, column: 5 });
-                assert_eq!(told.location, Location::new("src/main.rs", line, 5));
-                assert_eq!(matches!(told.text, Cow::Borrowed(_)), line < 4096, "line {line}");
-                assert_eq!(told.text, format!("src/main.rs:{line}:5"));
+                let site = places.site(&mut recent, &Place { file: "src/main.rs".to_owned(), line, column: 5 });
+                assert_eq!(site.location, Location::new("src/main.rs", line, 5));
+                assert_eq!(matches!(site.text, Cow::Borrowed(_)), line < 4096, "line {line}");
+                assert_eq!(site.text, format!("src/main.rs:{line}:5"));
             }
         }
     }
@@ -119,10 +119,10 @@ mod tests {
         for _ in 0..3 {
             for (file, line, column, text) in cases {
                 for _ in 0..2 {
-                    let told = places.tell(&mut recent, &Place { file: file.to_owned(), line, column });
-                    assert_eq!(told.text, text);
+                    let site = places.site(&mut recent, &Place { file: file.to_owned(), line, column });
+                    assert_eq!(site.text, text);
                     let short = text.rsplitn(3, ':').last().expect("a file").to_owned();
-                    assert_eq!(told.location, Location::new(short, line, column));
+                    assert_eq!(site.location, Location::new(short, line, column));
                 }
             }
         }

@@ -25,7 +25,7 @@ impl Place {
     }
 }
 
-/// The callsites that are told of. Each stands at the place that its address gives or soon after it, and stays. What has no room there is
+/// The callsites that are recorded. Each stands at the place that its address gives or soon after it, and stays. What has no room there is
 /// known by its texts.
 pub(crate) struct Plan(Box<[Place]>);
 

@@ -105,7 +105,7 @@ pub(crate) struct Plan {
 }
 
 impl Plan {
-    /// What a layer tells is published each so often.
+    /// What a layer records is published each so often.
     pub(crate) fn new(
         console: &Console,
         layer: &TaskscopeLayer,
@@ -118,7 +118,7 @@ impl Plan {
 
     /// Opens an output, and starts the thread that publishes there.
     ///
-    /// Where no library is kept for the processor and the system, it does neither, and says so.
+    /// If no library is kept for the processor and the system, it does neither, and says so.
     pub(crate) fn start(self, output: &Output) -> io::Result<Guard> {
         let left_out = Arc::clone(&self.left_out);
         if !self.console.is_active() {
@@ -157,7 +157,7 @@ impl Plan {
 }
 
 impl Guard {
-    /// Writes a last line, and waits until it is written, for 2 seconds at most. What comes later is told no more.
+    /// Writes a last line, and waits until it is written, for 2 seconds at most. What comes later isn't written any more.
     pub fn finish(&self) {
         if let Some(control) = &self.control {
             control.stop();
@@ -185,7 +185,7 @@ impl Drop for Guard {
 pub(crate) fn say_left_out(left_out: &LeftOut) {
     let left_out = left_out.to_string();
     if left_out != "nothing" {
-        say(format_args!("left out: {left_out}"));
+        say(format_args!("left out: {left_out} (the README of taskscope-subscriber says what these are)"));
     }
 }
 
@@ -228,7 +228,7 @@ impl Publishing {
         };
         match lines {
             Ok(()) => {}
-            // The next line tells what this one would have told.
+            // The next line has what this one would have had.
             Err(Fault::Memory) => {}
             Err(fault) => {
                 if !std::mem::replace(&mut self.has_failed, true) {
@@ -243,20 +243,20 @@ impl Publishing {
         self.written = Some(Instant::now());
     }
 
-    /// Writes a line that tells all. If that is longer than readers take, what the target wants then.
+    /// Writes a line that says all. If that is longer than readers take, what the target wants then.
     fn tell_all(&mut self, number: u64, is_last: bool) -> Result<(), Fault> {
         if let Some(line) = self.plan.console.snapshot_as(number, LONGEST_LINE)? {
             self.write(&line);
             return Ok(());
         }
-        self.target.refuse("a line that tells all would have more than the 256 MiB that readers take");
+        self.target.refuse("a line that says all would have more than the 256 MiB that readers take");
         match self.target.wants(is_last) {
             Wants::Changes => self.tell_changes(is_last),
             Wants::Nothing | Wants::All(_) => self.plan.console.pass(),
         }
     }
 
-    /// Writes what changed. Where nothing did, a line is written once in a while, as a sign of life.
+    /// Writes what changed. If nothing did, a line is written once in a while, as a sign of life.
     fn tell_changes(&mut self, is_last: bool) -> Result<(), Fault> {
         let is_due = is_last || self.written.map_or(true, |written| written.elapsed() >= SIGN_OF_LIFE);
         let console = &self.plan.console;

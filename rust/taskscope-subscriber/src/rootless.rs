@@ -18,9 +18,10 @@ use tracing_subscriber::registry::{LookupSpan, Registry};
 /// The subscriber around a [`TaskscopeLayer`] that stands beside others. It sees what tokio does with a task's span: a poll, and the
 /// task's end. And it makes each of tokio's spans a root.
 ///
-/// A registry closes no span before its children, nor while a handle of it is held. So without this a task that opened a span, or
-/// whose span another one took along, would seem to live on, idle and without wakers, until that other one ends. With it a task is
-/// closed when it ends, whoever holds its span, made it the parent of others, or took it along by `in_current_span`.
+/// A registry closes no span before its children, nor while a handle of it is held. So without this a task that opened a span
+/// would seem to live on, idle and without wakers. So would one whose span another one took along, until that other one ends.
+/// With it a task is closed when it ends, whoever holds its span, made it the parent of others, or took it along by
+/// `in_current_span`.
 ///
 /// The program's own spans keep their parents, and all layers hear the registry's ids. It is so over the [`Registry`] of
 /// `tracing-subscriber` alone, and if `downcast_ref` of the subscriber finds the layer. Behind a `reload::Layer` it doesn't: there the

@@ -8,7 +8,7 @@ use std::sync::Arc;
 use std::time::{Duration, Instant};
 use taskscope::Server;
 
-/// How often it is looked whether tokio tells of tasks.
+/// How often it is looked whether tokio reports tasks.
 const LOOK: Duration = Duration::from_secs(1);
 
 /// A server, and what there is to say.

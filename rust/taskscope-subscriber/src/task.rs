@@ -6,9 +6,9 @@ use taskscope::{Origin, SharedTask, TaskId};
 
 /// Which enters of a task's span are polls of the task.
 ///
-/// A future that takes along the span of the task which spawned it, by `in_current_span` or `instrument`, enters that task's span
-/// too when it is polled itself. So does a call on another thread, by `in_scope`. This is so if the layer stands beside others: with
-/// [`init`](crate::init) there is no current span, so nothing takes one along.
+/// A future may take along the span of the task which spawned it, by `in_current_span` or `instrument`. Then it enters that
+/// task's span too when it is polled itself. So does a call on another thread, by `in_scope`. This is so if the layer stands
+/// beside others: with [`init`](crate::init) there is no current span, so nothing takes one along.
 #[derive(Clone, Copy, Debug, Default, PartialEq, Eq)]
 #[non_exhaustive]
 pub enum Polls {
@@ -20,7 +20,7 @@ pub enum Polls {
     All,
 }
 
-/// A task that is told.
+/// A task that is recorded.
 #[derive(Debug)]
 pub(crate) struct Task {
     shared: SharedTask,

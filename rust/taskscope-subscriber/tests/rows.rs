@@ -24,7 +24,7 @@ in_each_form! {
     wakers_after_the_end_of_their_task_are_late
     attributes_have_their_values_and_units
     operations_have_their_tasks_polls_and_parents
-    of_tasks_alone_nothing_else_is_told
+    of_tasks_alone_nothing_else_is_recorded
     an_unknown_attribute_is_counted_and_known_from_then_on
     what_belongs_to_nothing_is_older_or_stray
     a_thread_that_ends_closes_its_tasks
@@ -61,10 +61,10 @@ fn numbers<const N: usize>(row: &str, keys: [&str; N]) -> [u64; N] {
 }
 
 /// The values of the resource of this type that was made in this file, or in no file that is told.
-fn attrs<'a>(line: &'a str, concrete: &str, file: &str) -> Vec<&'a str> {
-    let is_it = |info: &&str| value(info, "type") == format!("\"{concrete}\"") && info.contains(file);
+fn attrs<'a>(line: &'a str, type_name: &str, file: &str) -> Vec<&'a str> {
+    let is_it = |info: &&str| value(info, "type") == format!("\"{type_name}\"") && info.contains(file);
     let info = list(line, "new_resources").into_iter().find(is_it);
-    let id = number(info.unwrap_or_else(|| panic!("{concrete} in {line}")), "id");
+    let id = number(info.unwrap_or_else(|| panic!("{type_name} in {line}")), "id");
     list(with_id(line, "resource_stats", id).expect("its row"), "attrs")
 }
 
@@ -201,7 +201,7 @@ fn operations_have_their_tasks_polls_and_parents(form: Form) {
     assert_eq!(left_out.to_string(), "nothing");
 }
 
-fn of_tasks_alone_nothing_else_is_told(form: Form) {
+fn of_tasks_alone_nothing_else_is_recorded(form: Form) {
     let (line, left_out) = inspected(form, Items::Tasks, async {
         let mutex = Arc::new(tokio::sync::Mutex::new(0));
         *mutex.lock().await += 1;

@@ -136,7 +136,7 @@ fn a_filter_that_turns_tokio_off_is_said_once() {
         let (_, said) = ran(command("", how, &[("TASKSCOPE_STREAM", &path)]));
         assert_eq!(said.lines().count(), 1, "{how}: {said}");
         assert!(
-            said.starts_with("taskscope: nothing is told of tokio, as a filter of the subscriber"),
+            said.starts_with("taskscope: nothing is recorded of tokio, as a filter of the subscriber"),
             "{how}: {said}"
         );
         assert!(said.contains("`with_filter`") && said.contains("`tokio=trace,runtime=trace`"), "{how}: {said}");
@@ -148,7 +148,7 @@ fn a_program_without_tasks_is_told_of_what_may_be_wrong() {
     let folder = Folder::new();
     let (_, said) = ran(command("", "no task", &[("TASKSCOPE_STREAM", &folder.path("stream"))]));
     assert_eq!(said.lines().count(), 1, "{said}");
-    assert!(said.starts_with("taskscope: tokio has told of no task. If "), "{said}");
+    assert!(said.starts_with("taskscope: tokio has reported no task. If "), "{said}");
     assert!(said.contains("its feature `tracing`") && said.contains("`tokio=trace,runtime=trace`"), "{said}");
 }
 

@@ -208,7 +208,7 @@ pub(crate) struct NewAttrs {
 }
 
 impl NewAttrs {
-    /// Adds an attribute, where there is room for it and none has its name.
+    /// Adds an attribute, if there is room for it and none has its name.
     pub(crate) fn add(&mut self, attr: Attr) {
         let kept = &mut self.kept.0;
         if kept.len() < limit::ATTRIBUTES && kept.iter().all(|other| other.name != attr.name) {

@@ -1,14 +1,14 @@
-//! What the lines told so far, and what the next one has to tell.
+//! What the lines published so far, and what the next one has to say.
 
 use crate::fault::Fault;
 use crate::ffi::Head;
 use crate::item::{ItemKind, Lists};
+use crate::line_entries::{has_room, LineEntries};
 use crate::numbers::{Histograms, Left};
 use crate::op::OpCell;
-use crate::page::{has_room, Page};
 use crate::poll_counts::PollCounts;
 use crate::resource::ResourceCell;
-use crate::table::{Listed, Table, Told};
+use crate::table::{AnyTable, Listed, Table};
 use crate::task::TaskCell;
 
 /// How many tasks, resources and operations were dropped. Each stays at the greatest `u64`.
@@ -33,38 +33,38 @@ impl Total {
 pub(crate) struct Wanted {
     /// The line of what changed, under each of these numbers: for readers that hold the tables of the line before.
     pub(crate) changes: Vec<u64>,
-    /// The line that tells all, under this number: for readers that hold other tables or none.
+    /// The line that says all, under this number: for readers that hold other tables or none.
     pub(crate) all: Option<u64>,
-    /// How many bytes the line that tells all may have.
+    /// How many bytes the line that says all may have.
     pub(crate) most: usize,
-    /// Whether there is to be no line of changes that tells nothing new.
+    /// Whether there is to be no line of changes that says nothing new.
     pub(crate) unless_unchanged: bool,
 }
 
 /// Lines of one moment.
 #[derive(Debug, Default)]
 pub(crate) struct Lines {
-    /// For each number the line of what changed, and after it the one of what leaves, where something does.
+    /// For each number the line of what changed, and after it the one of what leaves, if something does.
     pub(crate) changes: Vec<Vec<u8>>,
-    /// The line that tells all, and after it the same line of what leaves. None where it was not wanted or is too long.
+    /// The line that says all, and after it the same line of what leaves. None if it was not wanted or is too long.
     pub(crate) all: Option<Vec<u8>>,
     /// How many lines each of these is: 1 or 2.
     pub(crate) count: u64,
 }
 
-/// The tables of the items that were told, and the lists of what the next line tells.
+/// The tables of the items that were published, and the lists of what the next line says.
 ///
-/// What was told is what a reader knows that took the last line, under whatever number. It is the same for all readers that are in step,
-/// and so one reading of the rows makes the lines of all.
+/// What was published is what a reader knows that took the last line, under whatever number. It is the same for all readers that
+/// are in step, and so one reading of the rows makes the lines of all.
 #[derive(Debug, Default)]
 pub(crate) struct Book {
     /// The number of the last line that was published.
     seq: u64,
-    /// Whether nobody knows what was told, so that only a line that tells all may follow.
+    /// Whether nobody knows what was published, so that only a line that says all may follow.
     owes_all: bool,
-    /// How many were dropped, as the last line told it.
+    /// How many were dropped, as the last line said it.
     dropped: Total,
-    /// Which histograms the tasks have. Lines tell them, or none does.
+    /// Which histograms the tasks have. All lines have them, or none does.
     histograms: Histograms,
     /// What has left, for the numbers.
     left: Left,
@@ -75,12 +75,12 @@ pub(crate) struct Book {
 }
 
 impl Book {
-    /// Nothing was told. Lines tell these histograms.
+    /// Nothing was published. Lines have these histograms.
     pub(crate) fn new(histograms: Histograms) -> Book {
         Book { histograms, ..Book::default() }
     }
 
-    fn tables(&mut self) -> [&mut dyn Told; 4] {
+    fn tables(&mut self) -> [&mut dyn AnyTable; 4] {
         [&mut self.tasks, &mut self.resources, &mut self.ops, &mut self.counts]
     }
 
@@ -89,7 +89,7 @@ impl Book {
         self.tables().into_iter().try_for_each(|table| table.take(fresh, changed))
     }
 
-    /// From now on nobody knows what was told.
+    /// From now on nobody knows what was published.
     pub(crate) fn owe_all(&mut self) {
         self.owes_all = true;
     }
@@ -131,7 +131,7 @@ impl Book {
         Ok(lines.all.or_else(|| lines.changes.into_iter().next()))
     }
 
-    /// The line that tells all under a number, the next one without any, or nothing where it has more than `most` bytes. Nothing leaves.
+    /// The line that says all under a number, the next one without any, or nothing if it has more than `most` bytes. Nothing leaves.
     /// The lines after it are numbered on.
     pub(crate) fn snapshot(
         &mut self,
@@ -150,10 +150,10 @@ impl Book {
         Ok(lines.all)
     }
 
-    /// Lines of one reading of the rows. There may be none, where they would tell nothing new and are not wanted then, or where the only
-    /// one is too long. Then, and with a fault, nothing counts as told.
+    /// Lines of one reading of the rows. There may be none: if they would say nothing new and are not wanted then, or if the only
+    /// one is too long. Then, and with a fault, nothing counts as published.
     ///
-    /// For a line that tells all, all rows are read, and otherwise those that changed.
+    /// For a line that says all, all rows are read, and otherwise those that changed.
     pub(crate) fn lines(
         &mut self,
         wanted: &Wanted,
@@ -177,13 +177,13 @@ impl Book {
         retention: Option<u64>,
     ) -> Result<(Lines, u64), Fault> {
         let listed = if wanted.all.is_some() { Listed::All } else { Listed::Changed };
-        let page = self.page(listed);
+        let entries = self.entries(listed);
         // Read after the rows, so that no moment in a line is above its own.
         let moment = now();
-        if wanted.unless_unchanged && wanted.all.is_none() && self.is_unchanged(&page, dropped, moment) {
+        if wanted.unless_unchanged && wanted.all.is_none() && self.is_unchanged(&entries, dropped, moment) {
             return Ok((Lines::default(), moment));
         }
-        let write = |seq, snapshot| page.line(&head(seq, moment, dropped, snapshot));
+        let write = |seq, snapshot| entries.line(&head(seq, moment, dropped, snapshot));
         let all = wanted.all.map(|seq| write(seq, true)).transpose()?.filter(|line| line.len() <= wanted.most);
         let changes = wanted.changes.iter().map(|&seq| write(seq, false)).collect::<Result<Vec<_>, _>>()?;
         if all.is_none() && changes.is_empty() {
@@ -192,36 +192,36 @@ impl Book {
         self.dropped = dropped;
         self.owes_all = false;
         for table in self.tables() {
-            table.tell(listed, &page, retention);
+            table.publish(listed, &entries, retention);
         }
         Ok((Lines { changes, all, count: 1 }, moment))
     }
 
-    /// Whether the next line would tell nothing but its moment. `page` has what it lists.
-    fn is_unchanged(&mut self, page: &Page, dropped: Total, moment: u64) -> bool {
-        page.is_empty() && dropped == self.dropped && !self.tables().iter().any(|table| table.may_leave(moment))
+    /// Whether the next line would say nothing but its moment. `entries` has what it lists.
+    fn is_unchanged(&mut self, entries: &LineEntries, dropped: Total, moment: u64) -> bool {
+        entries.is_empty() && dropped == self.dropped && !self.tables().iter().any(|table| table.may_leave(moment))
     }
 
     /// The entries of a line of these items and the new ones.
-    fn page(&mut self, listed: Listed) -> Page {
-        let mut page = Page::new(self.histograms.polls);
+    fn entries(&mut self, listed: Listed) -> LineEntries {
+        let mut entries = LineEntries::new(self.histograms.polls);
         for table in self.tables() {
-            table.enter(listed, &mut page);
+            table.enter(listed, &mut entries);
         }
-        page
+        entries
     }
 
-    /// Adds the line that says what leaves to each of the lines, under the number after its own. Where nothing leaves, and where one of
+    /// Adds the line that says what leaves to each of the lines, under the number after its own. If nothing leaves, or if one of
     /// them can't be made, none is added: what leaves then stays for the next call.
     fn add_leaving(&mut self, lines: &mut Lines, wanted: &Wanted, moment: u64, dropped: Total, retention: u64) {
-        let mut page = Page::default();
-        let tasks = self.tasks.enter_leaving(&mut page, moment, retention);
-        let resources = self.resources.enter_leaving(&mut page, moment, retention);
-        let ops = self.ops.enter_leaving(&mut page, moment, retention);
+        let mut entries = LineEntries::default();
+        let tasks = self.tasks.enter_leaving(&mut entries, moment, retention);
+        let resources = self.resources.enter_leaving(&mut entries, moment, retention);
+        let ops = self.ops.enter_leaving(&mut entries, moment, retention);
         if tasks.is_empty() && resources.is_empty() && ops.is_empty() {
             return;
         }
-        let write = |&seq: &u64| page.gone_line(&head(seq.saturating_add(1), moment, dropped, false), retention);
+        let write = |&seq: &u64| entries.gone_line(&head(seq.saturating_add(1), moment, dropped, false), retention);
         let after: Result<Vec<_>, _> = wanted.changes.iter().chain(&wanted.all).map(write).collect();
         let after = after.ok().filter(|after| each_with(lines, after).all(|(line, after)| has_room(line, after.len())));
         let after = match after {
@@ -242,8 +242,8 @@ impl Book {
         self.resources.leave(&resources, |resource, _| left.add_resource(resource, counts.forget(&resource.counts)));
     }
 
-    /// Takes what is new and what changed as told, and lets go of what leaves, as a line would, though none is made. Only a line that
-    /// tells all may follow, and the next one does.
+    /// Takes what is new and what changed as published, and lets go of what leaves, as a line would, though none is made. Only a line that
+    /// says all may follow, and the next one does.
     pub(crate) fn pass(&mut self, now: impl Fn() -> u64, retention: Option<u64>) {
         self.owe_all();
         for table in self.tables() {
@@ -285,7 +285,7 @@ fn each_with<'a>(lines: &'a mut Lines, after: &'a [Vec<u8>]) -> impl Iterator<It
     lines.changes.iter_mut().chain(&mut lines.all).zip(after)
 }
 
-/// The head of a line, but for how many entries were told, which the page says. The library refuses a number that no line can have.
+/// The head of a line, but for how many entries were published, which the entries say. The library refuses a number that no line can have.
 fn head(seq: u64, moment: u64, dropped: Total, snapshot: bool) -> Head {
     let Total([dropped_tasks, dropped_resources, dropped_ops]) = dropped;
     Head {

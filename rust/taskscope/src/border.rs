@@ -62,7 +62,7 @@ pub mod word {
     pub const FLAGS: usize = 0;
     /// When the item was created.
     pub const CREATED: usize = 1;
-    /// When the item was closed, where [`CLOSED`](super::flag::CLOSED) is set.
+    /// When the item was closed, if [`CLOSED`](super::flag::CLOSED) is set.
     pub const CLOSED: usize = 2;
     /// How many polls of a task have started.
     pub const POLLS: usize = 3;
@@ -81,7 +81,7 @@ pub mod word {
     pub const DROPS: usize = 12;
     /// How long a task waited since its last wake each time.
     pub const SCHED: usize = 14;
-    /// How long it waited in all, where [`COUNTED`](super::flag::COUNTED) is set.
+    /// How long it waited in all, if [`COUNTED`](super::flag::COUNTED) is set.
     pub const WAITED: usize = 15;
 }
 

@@ -1,7 +1,8 @@
 //! The clock of a console: nanoseconds since it was opened.
 //!
-//! A reading of the kernel's monotonic clock takes some 25 nanoseconds. Where the kernel counts by the processor's time stamp counter,
-//! this clock counts by it too, at some 10 nanoseconds a reading. At each line it learns how fast the kernel's clock went, and follows.
+//! A reading of the kernel's monotonic clock takes some 25 nanoseconds. If the kernel counts by the processor's time stamp
+//! counter, this clock counts by it too, at some 10 nanoseconds a reading. At each line it learns how fast the kernel's clock
+//! went, and follows.
 //!
 //! - **It rises.** A reading is never below one that the thread made before. [`now_after`](Clock::now_after) is never below a reading of
 //!   which the thread knows, whoever made it. [`now`](Clock::now) may be early by what the processor reads ahead, some tens of
@@ -13,9 +14,9 @@
 //!   more than a millisecond behind it steps forward. It is ahead for long after a suspend, which the kernel's clock leaves out.
 //! - **It waits for nobody.** A reader that meets a change of the rate looks again some times, and then has it made later.
 //!
-//! The kernel's clock is read until two spans between lines agree on the rate, each of 50 milliseconds or more. It is read for good if
-//! the processor doesn't say that its counter is even, if the kernel goes by something else or hides what it goes by, if the counter
-//! makes less than a count in a nanosecond, and on processors other than x86-64.
+//! The kernel's clock is read until two spans between lines agree on the rate, each of 50 milliseconds or more. It is read for
+//! good on processors other than x86-64, and if the processor doesn't say that its counter is even. So it is if the kernel goes
+//! by something else or hides what it goes by, and if the counter makes less than a count in a nanosecond.
 
 #[cfg(any(target_arch = "x86_64", test))]
 mod counted;

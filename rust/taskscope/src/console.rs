@@ -43,10 +43,10 @@ pub struct Settings {
     /// How long after its close an item stays in the tables of the stream. `None`: for good, and so the memory of a program
     /// that goes on making items has no bound.
     pub retention: Option<Duration>,
-    /// Whether a histogram is kept of how long each task's polls ran, which the lines tell: `taskscope view --times` shows it, and
+    /// Whether a histogram is kept of how long each task's polls ran, which the lines have: `taskscope view --times` shows it, and
     /// `taskscope lint --long-poll` warns by it.
     pub times: bool,
-    /// Whether it is counted of each task how long it waited in all, which the lines tell in version 4: each wait from its first
+    /// Whether it is counted of each task how long it waited in all, which the lines have in version 4: each wait from its first
     /// wake on, where `sched` counts from the last one. `taskscope view` shows it as `waited`. A `taskscope` that is older than
     /// version 4 refuses such lines.
     pub waits: bool,
@@ -129,7 +129,7 @@ struct Filling {
 
 impl Filling {
     #[cold]
-    fn tell(&self) {
+    fn announce(&self) {
         self.is_filling.store(true, Ordering::SeqCst);
         let call = lock(&self.call).clone();
         if let Some(call) = call {
@@ -170,7 +170,7 @@ fn shard() -> usize {
 }
 
 impl Inner {
-    /// Whether calls are recorded. Where they are not, no lock may be taken.
+    /// Whether calls are recorded. If they are not, no lock may be taken.
     #[inline]
     pub(crate) fn is_active(&self) -> bool {
         ffi::IS_LINKED && self.process.is_this()
@@ -199,7 +199,7 @@ impl Inner {
         self.waits
     }
 
-    /// Makes a call on an item's words, and lists the item for the next line where it isn't. Where nothing is recorded there is no
+    /// Makes a call on an item's words, and lists the item for the next line if it isn't. If nothing is recorded there is no
     /// call, and the answer is 0, `false` or none: it was made.
     #[inline]
     pub(crate) fn step<T: Item, R: Default>(&self, cell: &Arc<T>, call: impl FnOnce(&mut T::Words) -> R) -> R {
@@ -216,8 +216,8 @@ impl Inner {
         T::list(lists).push(Arc::clone(cell));
     }
 
-    /// Whether lines tell of an item.
-    pub(crate) fn tells<T: Item>(&self, cell: &T) -> bool {
+    /// Whether lines have an item.
+    pub(crate) fn publishes<T: Item>(&self, cell: &T) -> bool {
         self.is_active() && !cell.row().is_gone()
     }
 
@@ -240,7 +240,7 @@ impl Inner {
             let is_half_full = shard.fresh.held() == self.capacity - self.capacity / 2;
             drop(shard);
             if is_half_full {
-                self.filling.tell();
+                self.filling.announce();
             }
         } else {
             shard.dropped.add(T::KIND);
@@ -341,7 +341,7 @@ impl Inner {
         !self.is_claimed.swap(true, Ordering::SeqCst)
     }
 
-    /// Others may publish again. The next line tells all, unless it goes on with the same stream.
+    /// Others may publish again. The next line says all, unless it goes on with the same stream.
     pub(crate) fn give_back(&self, goes_on: bool) {
         if self.is_active() && !goes_on {
             lock(&self.book).owe_all();
@@ -490,8 +490,8 @@ impl Console {
     /// # Ok::<(), taskscope::Refused>(())
     /// ```
     #[track_caller]
-    pub fn resource(&self, concrete: impl Into<Cow<'static, str>>) -> ResourceBuilder<'_> {
-        ResourceBuilder::new(self, concrete.into(), Made::here())
+    pub fn resource(&self, type_name: impl Into<Cow<'static, str>>) -> ResourceBuilder<'_> {
+        ResourceBuilder::new(self, type_name.into(), Made::here())
     }
 
     /// Begins an async operation on a resource, by the call that makes it, as `Semaphore::acquire`.
@@ -512,17 +512,18 @@ impl Console {
         OpBuilder::new(self, resource, source.into())
     }
 
-    /// The next line of the stream, with its line end: what is new or has changed since the line before. Where closed items
+    /// The next line of the stream, with its line end: what is new or has changed since the line before. If closed items
     /// leave with it, a second line after it says which. If nothing is recorded ([`is_active`](Console::is_active)) it is empty.
     ///
-    /// Its cost is by what changed, not by how many items there are. Where several threads publish, their lines are to be
+    /// Its cost is by what changed, not by how many items there are. If several threads publish, their lines are to be
     /// written in the order of their numbers.
     ///
     /// # Errors
-    /// Nothing counts as told then, and the next call tells it. [`Memory`](Fault::Memory) may come at any call, and
+    /// Nothing counts as published then, and the next call publishes it. [`Memory`](Fault::Memory) may come at any call, and
     /// [`LinesSpent`](Fault::LinesSpent) after 2^63 lines. The others don't come while this crate and its library fit each
     /// other. If a line was made and the one about what leaves was not, this is no error, and these items leave later.
-    /// [`OtherWriter`](Fault::OtherWriter) if a [`Publisher`](crate::Publisher) or a [`Server`](crate::Server) publishes the lines of this console.
+    /// [`OtherWriter`](Fault::OtherWriter) comes if a [`Publisher`](crate::Publisher) or a [`Server`](crate::Server) publishes the
+    /// lines of this console.
     pub fn publish(&self) -> Result<Vec<u8>, Fault> {
         self.0.unclaimed()?;
         self.0.publish()
@@ -552,7 +553,7 @@ impl Console {
         self.0.publish_changes()
     }
 
-    /// The next line of the stream, as one that tells all, from which a new reader can begin. Nothing leaves with it.
+    /// The next line of the stream, as one that says all, from which a new reader can begin. Nothing leaves with it.
     ///
     /// It has some 420 bytes for each task, and as much memory is needed for it twice. The program `taskscope` takes lines of 256 MiB,
     /// so it can't begin at one with more than some 630,000 tasks.
@@ -577,7 +578,7 @@ impl Console {
         self.0.snapshot(None, usize::MAX).map(Option::unwrap_or_default)
     }
 
-    /// As [`snapshot`](Console::snapshot), or `None` if the line has more than `most` bytes. Nothing counts as told then, and the
+    /// As [`snapshot`](Console::snapshot), or `None` if the line has more than `most` bytes. Nothing counts as published then, and the
     /// next line is as if this one had not been asked for.
     ///
     /// The line is made to see how long it is.
@@ -626,7 +627,7 @@ impl Console {
     }
 
     /// Lets items come, change and leave without a line, while nobody reads: what is new is taken up, so that recorders have room, and
-    /// closed items leave once they are due. The next line tells all, whichever call asks for it. It costs as a line does, less its text.
+    /// closed items leave once they are due. The next line says all, whichever call asks for it. It costs as a line does, less its text.
     ///
     /// ```
     /// use taskscope::{Console, Settings};
@@ -641,7 +642,8 @@ impl Console {
     /// ```
     ///
     /// # Errors
-    /// [`OtherWriter`](Fault::OtherWriter) if a [`Publisher`](crate::Publisher) or a [`Server`](crate::Server) publishes the lines of this console.
+    /// [`OtherWriter`](Fault::OtherWriter) comes if a [`Publisher`](crate::Publisher) or a [`Server`](crate::Server) publishes the
+    /// lines of this console.
     pub fn pass(&self) -> Result<(), Fault> {
         self.0.unclaimed()?;
         self.0.pass();
@@ -651,21 +653,23 @@ impl Console {
     /// The numbers of now as Prometheus reads them, for a program that answers `GET /metrics` itself. A [`Server`](crate::Server) at a
     /// port answers it, too. If nothing is recorded ([`is_active`](Console::is_active)) the text is empty.
     ///
-    /// It is text of the exposition format 0.0.4: families of samples, then `# EOF`. They are those of `taskscope metrics --by place` of the
-    /// console's own stream: counters and histograms of tasks by place, with all tasks that have left, the states of tasks, what
-    /// lasts, poll operations of resources, warnings, and dropped events. A place is a task's name with each run of digits read as
-    /// `#`, its kind and where it was spawned, and stands in the labels `name`, `kind` and `location`. Times are in seconds.
+    /// It is text of the exposition format 0.0.4: families of samples, then `# EOF`. They are those of
+    /// `taskscope metrics --by place` of the console's own stream. Counters and histograms of tasks are by place, with all tasks
+    /// that have left. Others are of the states of tasks, what lasts, poll operations of resources, warnings, and dropped events.
+    /// A place is a task's name with each run of digits read as `#`, its kind, and where it was spawned. It stands in the labels
+    /// `name`, `kind` and `location`. Times are in seconds.
     ///
     /// - 4,096 places have samples of their own, the first that left or were shown here. All others are one, `name="(others)"`.
     ///   So it is with types of resources.
     /// - No count falls, and no series ends.
     /// - Findings and what is charged to who holds others up (`taskscope_findings`, `taskscope_held_up_seconds_total`,
-    ///   `taskscope_waited_seconds_total`) are left out, as they are of steps between lines, which a reader of the stream sees. So is
-    ///   `taskscope_stream_lines_total`. If alerts are to name the culprit of a hang, let `taskscope metrics --to` read the stream.
+    ///   `taskscope_waited_seconds_total`) are left out. They are of steps between lines, which only a reader of the stream sees.
+    ///   So is `taskscope_stream_lines_total`. If alerts are to name the culprit of a hang, let `taskscope metrics --to` read the
+    ///   stream.
     ///
-    /// This may be called beside a [`Publisher`](crate::Publisher) or a server, and takes nothing from its lines. If no line was made yet,
-    /// and while nobody reads them, items come and leave with it as with [`pass`](Console::pass), so a program may have numbers and no
-    /// stream. Each row is read once, as for a line that tells all; calls on rows don't wait for it.
+    /// This may be called beside a [`Publisher`](crate::Publisher) or a server, and takes nothing from its lines. If no line was
+    /// made yet, and while nobody reads lines, items come and leave with it as with [`pass`](Console::pass). So a program may
+    /// have numbers and no stream. Each row is read once, as for a line that says all; calls on rows don't wait for it.
     ///
     /// ```
     /// use taskscope::{Console, Settings};

@@ -6,7 +6,7 @@ use crate::item::ItemKind;
 use std::error::Error;
 use std::fmt;
 
-/// Why no line was made. Nothing counts as told then, and the next call tells it.
+/// Why no line was made. Nothing counts as published then, and the next call publishes it.
 #[derive(Clone, Copy, Debug, PartialEq, Eq, Hash)]
 #[non_exhaustive]
 pub enum Fault {
@@ -14,8 +14,8 @@ pub enum Fault {
     Memory,
     /// The stream has all of its 2^63 lines.
     LinesSpent,
-    /// A [`Publisher`](crate::Publisher) or a [`Server`](crate::Server) publishes the lines of this console. A second stream of them would lack what the
-    /// first one told.
+    /// A [`Publisher`](crate::Publisher) or a [`Server`](crate::Server) publishes the lines of this console. A second stream of them
+    /// would lack what the first one published.
     OtherWriter,
     /// The library refused an item of the line. It refuses none that this crate makes while the two fit each other.
     BadItem {
@@ -37,17 +37,17 @@ pub enum Fault {
 #[derive(Clone, Copy, Debug, PartialEq, Eq, Hash)]
 #[non_exhaustive]
 pub enum BadItem {
-    /// An id is none: its own, its resource's or its parent's.
+    /// An id is not valid: its own, its resource's or its parent's.
     Id,
-    /// A name is none.
+    /// A name is not valid.
     Name,
-    /// A piece of it reaches out of the text or the attributes.
+    /// A part of it lies beyond the text or the attributes of the line.
     Piece,
     /// It has more than 6 attributes, or two of one name.
     Attrs,
-    /// Its words are those of no row.
+    /// Its words are not those of a row.
     Words,
-    /// Its id stood before in the list.
+    /// Its id stands twice in the list.
     Repeated,
 }
 
@@ -68,12 +68,12 @@ impl BadItem {
 impl fmt::Display for BadItem {
     fn fmt(&self, f: &mut fmt::Formatter<'_>) -> fmt::Result {
         f.write_str(match self {
-            BadItem::Id => "an id is none",
-            BadItem::Name => "a name is none",
-            BadItem::Piece => "a piece reaches out",
-            BadItem::Attrs => "the attributes are none of an item",
-            BadItem::Words => "the words are those of no row",
-            BadItem::Repeated => "the id stood before",
+            BadItem::Id => "invalid id",
+            BadItem::Name => "invalid name",
+            BadItem::Piece => "a part of it is out of bounds",
+            BadItem::Attrs => "more than 6 attributes, or two of one name",
+            BadItem::Words => "invalid words of a row",
+            BadItem::Repeated => "the id stands twice",
         })
     }
 }
@@ -82,14 +82,16 @@ impl fmt::Display for Fault {
     fn fmt(&self, f: &mut fmt::Formatter<'_>) -> fmt::Result {
         match self {
             Fault::Memory => f.write_str("out of memory"),
-            Fault::LinesSpent => f.write_str("no line is left in the stream"),
+            Fault::LinesSpent => f.write_str("the stream has all of its 2^63 lines"),
             Fault::OtherWriter => f.write_str("another writer publishes the lines of this console"),
             Fault::BadItem { kind, id, reason } => {
                 write!(f, "{kind} ")?;
                 id::print(*id, f)?;
                 write!(f, ": {reason}")
             }
-            Fault::Misfit { status } => write!(f, "the library answered {status}, which is unknown here"),
+            Fault::Misfit { status } => {
+                write!(f, "the static library answered {status}: it is not the one that this crate was built for")
+            }
         }
     }
 }

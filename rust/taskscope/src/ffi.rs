@@ -2,11 +2,11 @@
 //!
 //! A slice there is a pointer and a length here. Its allocator has no bytes, so it is no parameter.
 //!
-//! No export requires more of its arguments than their types say, so whoever calls one owes this alone: references and
-//! pointers are valid for the call, a pointer for as many elements as the length after it says, and what is lent as `&mut`
-//! or `*mut` is lent to this call only.
+//! No export requires more of its arguments than their types say, so whoever calls one owes this alone: references and pointers
+//! are valid for the call, a pointer for as many elements as the length after it says. What is lent as `&mut` or `*mut` is lent
+//! to this call only.
 //!
-//! Where no library fits the target, `build.rs` says so by `taskscope_inactive`. The exports then are functions that do nothing, and
+//! If no library fits the target, `build.rs` says so by `taskscope_inactive`. The exports then are functions that do nothing, and
 //! a console makes no use of them.
 
 /// A row: the statistics of one item.
@@ -101,7 +101,7 @@ pub struct TimesEntry {
     pub waited: bool,
 }
 
-/// What a line has beside its items. The first `told_` entries of each list were told by the line before.
+/// What a line has beside its items. The first `told_` entries of each list were published by the line before.
 #[repr(C)]
 #[derive(Clone, Copy, Debug)]
 pub struct Head {
@@ -125,17 +125,17 @@ pub struct Head {
 /// | 1 | nothing was written, as there is no room for the `len` bytes |
 /// | 2 | want of memory |
 /// | 3 | no line has the number |
-/// | 4 | more entries were told than there are |
+/// | 4 | more entries were published before than there are |
 /// | 5, 6, 7, 8, 9 | the entry at `place` of the tasks, resources, operations, poll counts or histograms is none, for `reason` |
 ///
 /// | `reason` | |
 /// |---|---|
-/// | 1 | an id is none: its own, its resource's or its parent's |
-/// | 2 | a name is none |
-/// | 3 | a piece reaches out of the text or the attributes |
+/// | 1 | an id is not valid: its own, its resource's or its parent's |
+/// | 2 | a name is not valid |
+/// | 3 | a piece lies beyond the text or the attributes |
 /// | 4 | there are more than 6 attributes, or two of one name |
-/// | 5 | the words are those of no row |
-/// | 6 | the id stood before in the list |
+/// | 5 | the words are not those of a row |
+/// | 6 | the id stands twice in the list |
 #[repr(C)]
 #[derive(Clone, Copy, Debug, Default)]
 pub struct Answer {

@@ -14,9 +14,9 @@ use std::task::{Context, Poll};
 
 /// A future whose polls, wakes and wakers are recorded as those of one task.
 ///
-/// A waker that the future clones of the one that a poll lends is counted as a clone, and when it is dropped or wakes by value as
-/// dropped. A wake by a thread that is within a poll of this very task is a self-wake, also if a future within this one
-/// is polled then. A poll that panics has ended. The task is closed when this is dropped, after its future.
+/// A poll lends the future a waker. Each clone that the future makes of it is counted, and counts as dropped when it is dropped
+/// or wakes by value. A wake by a thread that is within a poll of this very task is a self-wake. So it is if a future within this
+/// one is polled then. A poll that panics has ended. The task is closed when this is dropped, after its future.
 ///
 /// The executor's waker is kept while a clone is out that wakes by it, and no longer: an executor that frees a task with its last waker
 /// frees this one as any other.

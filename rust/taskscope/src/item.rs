@@ -2,7 +2,7 @@
 
 use crate::border::{flag, word};
 use crate::ffi::Words;
-use crate::page::Page;
+use crate::line_entries::LineEntries;
 use crate::poll_counts::PollCounts;
 use crate::row::{Reading, Row};
 use crate::{op::OpCell, resource::ResourceCell, task::TaskCell};
@@ -60,19 +60,19 @@ pub(crate) trait Item: Sized {
     /// The list of this kind.
     fn list(lists: &mut Lists) -> &mut Vec<Arc<Self>>;
 
-    /// Adds the item to the entries of a page.
-    fn enter(&self, page: &mut Page, reading: &Reading<Self::Words>);
+    /// Adds the item to the entries of a line.
+    fn enter(&self, entries: &mut LineEntries, reading: &Reading<Self::Words>);
 
-    /// What the page's entry at this place says of the item, from 0.
-    fn entered(page: &Page, place: usize) -> Reading<Self::Words>;
+    /// What the entry at this place says of the item, from 0.
+    fn entered(entries: &LineEntries, place: usize) -> Reading<Self::Words>;
 
     /// When the item was closed, by its words.
     fn closed(words: &Self::Words) -> Option<u64>;
 
-    /// Whether an item that was told with these words leaves.
-    fn leaves(told: &Self::Words, moment: u64, retention: u64) -> bool;
+    /// Whether an item that was published with these words leaves.
+    fn leaves(published: &Self::Words, moment: u64, retention: u64) -> bool;
 
-    /// No line tells of the item any more.
+    /// No line has the item any more.
     fn leave(&self) {
         self.row().leave();
     }

@@ -71,7 +71,7 @@ impl Block {
         unsafe { (*self.waker.get()).assume_init_ref() }
     }
 
-    /// Makes a clone of a waker a holder. The answer is a block for it, where this one can't have the executor's waker as its own.
+    /// Makes a clone of a waker a holder. The answer is a block for it, if this one can't have the executor's waker as its own.
     ///
     /// # Safety
     /// The caller is a holder.

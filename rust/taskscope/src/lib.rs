@@ -3,12 +3,12 @@
 //! # The types
 //!
 //! Each call on an item is one step on its row, which a proved library makes; the rows of two items never meet. From time to time
-//! [`Console::publish`] gives a line of JSON that tells what is new and what changed, which the same library writes. `taskscope
+//! [`Console::publish`] gives a line of JSON that says what is new and what changed, which the same library writes. `taskscope
 //! view` shows such lines as a report, and `taskscope lint` the warnings about them.
 //!
 //! - [`Console`] makes items and publishes lines, by its [`Settings`], and gives numbers for Prometheus ([`Console::metrics`]).
-//!   [`Publisher`] writes lines each so often, on a thread, and [`Server`] serves them at an [`Address`], to readers that connect and
-//!   go as they like, within [`Limits`].
+//!   [`Publisher`] writes lines each so often, on a thread. [`Server`] serves them at an [`Address`], within [`Limits`], to
+//!   readers that connect and go as they like.
 //! - [`Inspected`] is a future whose polls and wakers are recorded, which [`InstrumentExt`] makes of any; [`Blocking`] is a call
 //!   that blocks its thread, and [`InspectedOp`] a future that is an async operation. Most programs need no more.
 //! - [`Task`] is the owner of a task, for polls by hand, [`TaskWaker`] one of its wakers. [`Resource`] is what tasks wait for,
@@ -22,8 +22,8 @@
 //!
 //! # Names
 //!
-//! A line holds names of 1 to 1,024 bytes of printable ASCII. Of any other name each character that is not printable ASCII becomes
-//! `?`, what stands after the first 1,024 characters is cut off, and the empty name becomes `?`. This holds for names, files,
+//! A line holds names of 1 to 1,024 bytes of printable ASCII. Of any other name each character that is not printable ASCII
+//! becomes `?`, and so does the empty name. What stands after the first 1,024 characters is cut off. This holds for names, files,
 //! types, kinds, sources and units alike.
 //!
 //! # Misuse
@@ -79,6 +79,7 @@ mod inspected;
 mod item;
 mod lent;
 mod light;
+mod line_entries;
 mod location;
 mod lock;
 #[cfg(not(taskscope_inactive))]
@@ -86,7 +87,6 @@ mod memory;
 mod name;
 mod numbers;
 mod op;
-mod page;
 mod poll_counts;
 mod polled;
 mod process;

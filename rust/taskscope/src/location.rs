@@ -28,7 +28,7 @@ impl Location {
         Location { file: Name::new(file.into()), line, column }
     }
 
-    /// Where the caller of this function stands, or that of the function around it where that has `#[track_caller]`.
+    /// Where the caller of this function stands, or that of the function around it if that has `#[track_caller]`.
     #[track_caller]
     pub fn caller() -> Location {
         panic::Location::caller().into()

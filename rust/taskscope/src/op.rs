@@ -5,8 +5,8 @@ use crate::console::{Console, Inner};
 use crate::ffi::{self, OpEntry, Words};
 use crate::id::{OpId, TaskId};
 use crate::item::{closed, Item, ItemKind, Lists};
+use crate::line_entries::LineEntries;
 use crate::name::Name;
-use crate::page::Page;
 use crate::poll_counts::PollCounts;
 use crate::refused::{done, Refused};
 use crate::resource::Resource;
@@ -39,31 +39,31 @@ impl Item for OpCell {
         &mut lists.ops
     }
 
-    fn enter(&self, page: &mut Page, reading: &Reading<Words>) {
+    fn enter(&self, entries: &mut LineEntries, reading: &Reading<Words>) {
         let entry = OpEntry {
             row: reading.now,
-            told: reading.told,
+            told: reading.published,
             id: self.id,
             resource: self.counts.resource,
             parent: self.parent,
-            source: page.piece(&self.source),
-            attrs: page.attrs(&self.attrs),
+            source: entries.piece(&self.source),
+            attrs: entries.attrs(&self.attrs),
         };
-        page.add_op(entry);
+        entries.add_op(entry);
     }
 
-    fn entered(page: &Page, place: usize) -> Reading<Words> {
-        let entry = &page.ops[place];
-        Reading { now: entry.row, told: entry.told }
+    fn entered(entries: &LineEntries, place: usize) -> Reading<Words> {
+        let entry = &entries.ops[place];
+        Reading { now: entry.row, published: entry.told }
     }
 
     fn closed(words: &Words) -> Option<u64> {
         closed(words)
     }
 
-    fn leaves(told: &Words, moment: u64, retention: u64) -> bool {
+    fn leaves(published: &Words, moment: u64, retention: u64) -> bool {
         // SAFETY: the words are lent for the call.
-        unsafe { ffi::taskscope_op_leaves(told, moment, retention) }
+        unsafe { ffi::taskscope_op_leaves(published, moment, retention) }
     }
 }
 
@@ -125,8 +125,8 @@ impl<'a> OpBuilder<'a> {
         &self.attrs.left_out
     }
 
-    /// Makes the operation, created now. Where the thread's recorder is full it is counted as dropped: its calls work all the
-    /// same, and no line tells of it.
+    /// Makes the operation, created now. If the thread's recorder is full it is counted as dropped: its calls work all the
+    /// same, and no line has it.
     pub fn open(self) -> Op {
         let console = self.console.inner();
         let created = console.now();
@@ -163,7 +163,7 @@ impl Op {
     /// Whether lines have the operation. They don't if its recorder was full or had no number for it, which counts it as dropped, or if the
     /// console isn't [active](crate::Console::is_active).
     pub fn is_recorded(&self) -> bool {
-        self.console.tells(&*self.cell)
+        self.console.publishes(&*self.cell)
     }
 
     /// A poll starts now.
@@ -219,7 +219,7 @@ impl Drop for Op {
     /// Closes the operation, and ends its poll where one is open.
     fn drop(&mut self) {
         let now = self.console.now();
-        // SAFETY: the row's lock lends the words to this call alone. `end` is refused, and changes nothing, where no poll is open.
+        // SAFETY: the row's lock lends the words to this call alone. `end` is refused, and changes nothing, if no poll is open.
         self.console.step(&self.cell, |words| unsafe {
             ffi::taskscope_op_end(words, now);
             ffi::taskscope_op_close(words, now)

@@ -3,7 +3,7 @@
 use crate::console::Inner;
 use crate::ffi::CountEntry;
 use crate::item::{Item, ItemKind, Lists};
-use crate::page::Page;
+use crate::line_entries::LineEntries;
 use crate::row::{Reading, Row};
 use std::sync::Arc;
 
@@ -41,14 +41,14 @@ impl Item for PollCounts {
         &mut lists.counts
     }
 
-    fn enter(&self, page: &mut Page, reading: &Reading<[u64; 2]>) {
-        let ([ready, pending], [told_ready, told_pending]) = (reading.now, reading.told);
-        page.add_counts(CountEntry { resource: self.resource, ready, pending, told_ready, told_pending });
+    fn enter(&self, entries: &mut LineEntries, reading: &Reading<[u64; 2]>) {
+        let ([ready, pending], [told_ready, told_pending]) = (reading.now, reading.published);
+        entries.add_counts(CountEntry { resource: self.resource, ready, pending, told_ready, told_pending });
     }
 
-    fn entered(page: &Page, place: usize) -> Reading<[u64; 2]> {
-        let entry = &page.counts[place];
-        Reading { now: [entry.ready, entry.pending], told: [entry.told_ready, entry.told_pending] }
+    fn entered(entries: &LineEntries, place: usize) -> Reading<[u64; 2]> {
+        let entry = &entries.counts[place];
+        Reading { now: [entry.ready, entry.pending], published: [entry.told_ready, entry.told_pending] }
     }
 
     fn closed(_words: &[u64; 2]) -> Option<u64> {

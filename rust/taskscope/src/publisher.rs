@@ -43,8 +43,8 @@ impl<W: Write + Send + 'static> Publisher<W> {
     /// Starts the thread, whose first line comes at once, and the others each `every`. With [`Duration::MAX`] there is only the
     /// first line and the last.
     ///
-    /// It ends by itself at the first error of the writer. Want of memory for a line doesn't end it, as the next line tells
-    /// what that one would have told.
+    /// It ends by itself at the first error of the writer. Want of memory for a line doesn't end it, as the next line has
+    /// what that one would have had.
     ///
     /// # Errors
     /// [`InvalidInput`](io::ErrorKind::InvalidInput) for an interval of 0, by which the thread would write without a pause.
@@ -64,7 +64,7 @@ impl<W: Write + Send + 'static> Publisher<W> {
 }
 
 impl<W> Publisher<W> {
-    /// Stops the thread, which writes a last line that tells of every call that returned before this one, and gives the writer
+    /// Stops the thread, which writes a last line with every call that returned before this one, and gives the writer
     /// back. It waits 2 seconds at most. The console's next line goes on with the stream in the writer.
     ///
     /// # Errors
@@ -74,7 +74,7 @@ impl<W> Publisher<W> {
     /// [`Unsupported`](io::ErrorKind::Unsupported) in a process that was forked from the one with the thread, at once.
     ///
     /// # Panics
-    /// Where the writer did.
+    /// If the writer did.
     pub fn stop(mut self) -> io::Result<W> {
         match self.running.end(|| ())? {
             Ok(outcome) => outcome,

@@ -5,9 +5,9 @@ use crate::console::{Console, Inner};
 use crate::ffi::{self, ResourceEntry, Words};
 use crate::id::ResourceId;
 use crate::item::{closed, Item, ItemKind, Lists};
+use crate::line_entries::LineEntries;
 use crate::location::{Location, Made};
 use crate::name::Name;
-use crate::page::Page;
 use crate::poll_counts::PollCounts;
 use crate::refused::{done, Refused};
 use crate::row::{Reading, Row};
@@ -20,7 +20,7 @@ pub(crate) struct ResourceCell {
     id: u64,
     /// The parent's id, or 0.
     parent: u64,
-    pub(crate) concrete: Name,
+    pub(crate) type_name: Name,
     kind: Name,
     location: Location,
     attrs: Attrs,
@@ -40,34 +40,34 @@ impl Item for ResourceCell {
         &mut lists.resources
     }
 
-    fn enter(&self, page: &mut Page, reading: &Reading<Words>) {
+    fn enter(&self, entries: &mut LineEntries, reading: &Reading<Words>) {
         let entry = ResourceEntry {
             row: reading.now,
-            told: reading.told,
+            told: reading.published,
             id: self.id,
             parent: self.parent,
-            concrete: page.piece(&self.concrete),
-            kind: page.piece(&self.kind),
-            file: page.piece(&self.location.file),
-            attrs: page.attrs(&self.attrs),
+            concrete: entries.piece(&self.type_name),
+            kind: entries.piece(&self.kind),
+            file: entries.piece(&self.location.file),
+            attrs: entries.attrs(&self.attrs),
             line: self.location.line,
             column: self.location.column,
         };
-        page.add_resource(entry);
+        entries.add_resource(entry);
     }
 
-    fn entered(page: &Page, place: usize) -> Reading<Words> {
-        let entry = &page.resources[place];
-        Reading { now: entry.row, told: entry.told }
+    fn entered(entries: &LineEntries, place: usize) -> Reading<Words> {
+        let entry = &entries.resources[place];
+        Reading { now: entry.row, published: entry.told }
     }
 
     fn closed(words: &Words) -> Option<u64> {
         closed(words)
     }
 
-    fn leaves(told: &Words, moment: u64, retention: u64) -> bool {
+    fn leaves(published: &Words, moment: u64, retention: u64) -> bool {
         // SAFETY: the words are lent for the call.
-        unsafe { ffi::taskscope_resource_leaves(told, moment, retention) }
+        unsafe { ffi::taskscope_resource_leaves(published, moment, retention) }
     }
 
     fn leave(&self) {
@@ -85,16 +85,16 @@ const OTHER: &str = "Other";
 pub struct ResourceBuilder<'a> {
     console: &'a Console,
     parent: u64,
-    concrete: Name,
+    type_name: Name,
     kind: Name,
     made: Made,
     attrs: NewAttrs,
 }
 
 impl<'a> ResourceBuilder<'a> {
-    pub(crate) fn new(console: &'a Console, concrete: Cow<'static, str>, made: Made) -> ResourceBuilder<'a> {
-        let (concrete, kind) = (Name::new(concrete), Name::new(Cow::Borrowed(OTHER)));
-        ResourceBuilder { console, parent: 0, concrete, kind, made, attrs: NewAttrs::default() }
+    pub(crate) fn new(console: &'a Console, type_name: Cow<'static, str>, made: Made) -> ResourceBuilder<'a> {
+        let (type_name, kind) = (Name::new(type_name), Name::new(Cow::Borrowed(OTHER)));
+        ResourceBuilder { console, parent: 0, type_name, kind, made, attrs: NewAttrs::default() }
     }
 
     /// What kind of resource it is, as `Sync` or `Timer`: without this it is `Other`.
@@ -161,8 +161,8 @@ impl<'a> ResourceBuilder<'a> {
         ResourceBuilder { made: Made::At(location.into()), ..self }
     }
 
-    /// Makes the resource, created now. Where the thread's recorder is full it is counted as dropped: its calls work all the
-    /// same, and no line tells of it or of its poll operations.
+    /// Makes the resource, created now. If the thread's recorder is full it is counted as dropped: its calls work all the
+    /// same, and no line has it or its poll operations.
     pub fn open(self) -> Resource {
         let console = self.console.inner();
         let created = console.now();
@@ -174,7 +174,7 @@ impl<'a> ResourceBuilder<'a> {
         let cell = console.record(|id| ResourceCell {
             id,
             parent: self.parent,
-            concrete: self.concrete,
+            type_name: self.type_name,
             kind: self.kind,
             location: self.made.location(),
             attrs: self.attrs.kept,
@@ -212,7 +212,7 @@ impl Resource {
     /// Whether lines have the resource. They don't if its recorder was full or had no number for it, which counts it as dropped, or if the
     /// console isn't [active](crate::Console::is_active).
     pub fn is_recorded(&self) -> bool {
-        self.0.console.tells(&*self.0.cell)
+        self.0.console.publishes(&*self.0.cell)
     }
 
     pub(crate) fn counts(&self) -> &Arc<PollCounts> {

@@ -12,9 +12,9 @@ use std::time::Duration;
 /// How long an end waits for the last line.
 const LAST_WAIT: Duration = Duration::from_secs(2);
 
-/// The right to publish the lines of a console. One has it at a time, as each line tells what changed since the one before.
+/// The right to publish the lines of a console. One has it at a time, as each line says what changed since the one before.
 ///
-/// When it is dropped nobody has the stream so far, and the next line tells all.
+/// When it is dropped nobody has the stream so far, and the next line says all.
 #[derive(Debug)]
 pub(crate) struct Claim {
     console: Console,

@@ -26,20 +26,20 @@ use system::Wake;
 
 /// A thread that serves a console's stream to readers that connect and go as they like.
 ///
-/// Each reader is sent a stream of its own: numbers rise by one, the first line tells all, and a later one tells what changed since
+/// Each reader is sent a stream of its own: numbers rise by one, the first line says all, and a later one says what changed since
 /// the line before. No reader holds up the program or another reader, and what each costs is bounded by [`Limits`].
 ///
 /// | a reader | gets next |
 /// |---|---|
-/// | is new | the line that tells all, within some hundredths of a second, however far lines are apart |
+/// | is new | the line that says all, within some hundredths of a second, however far lines are apart |
 /// | took the last line, or has it waiting | the line of what changed |
-/// | is behind: more waits than [`Limits::waiting`](Limits#structfield.waiting) | nothing until it has taken the text that it is in, then the line that tells all |
+/// | is behind: more waits than [`Limits::waiting`](Limits#structfield.waiting) | nothing until it has taken the text that it is in, then the line that says all |
 /// | took no byte of what waits for [`Limits::patience`](Limits#structfield.patience) | the end |
 /// | comes when [`Limits::readers`](Limits#structfield.readers) are there | the end |
 ///
 /// Rows are read once for all readers. While nobody reads no line is made, and closed items leave all the same. While nothing changes
 /// a line is sent once in a second, as a sign of life. While a recorder is half full the next line comes at once. At most a quarter
-/// of the thread's time goes into lines that tell all, so that readers that come again and again don't cost more. Such a line waits 2
+/// of the thread's time goes into lines that say all, so that readers that come again and again don't cost more. Such a line waits 2
 /// seconds at most for this. So it is with numbers for Prometheus.
 ///
 /// ```
@@ -68,11 +68,11 @@ use system::Wake;
 ///
 /// # A port
 ///
-/// Each user of this machine may read a port of it. Who says nothing for a tenth of a second gets lines, as `nc HOST PORT`. Who sends
-/// a request is answered by HTTP: `GET /stream` gives lines, `/snapshot` one line that tells all, `/metrics` the numbers of
-/// [`Console::metrics`], `/` says what to type, and any other path is 404. The `Host` of a request has to be an address of this machine or `localhost`, so that no page of another site reads
-/// the stream by a name that it made one of this machine's; any other is 403. No header allows other sites to read an answer. Of a
-/// reader 8 KiB are read at most, within 5 seconds.
+/// Each user of this machine may read a port of it. Who says nothing for a tenth of a second gets lines, as `nc HOST PORT`. Who
+/// sends a request is answered by HTTP: `GET /stream` gives lines, `/snapshot` one line that says all, `/metrics` the numbers of
+/// [`Console::metrics`], `/` says what to type, and any other path is 404. The `Host` of a request has to be an address of this
+/// machine or `localhost`; any other is 403. So no page of another site reads the stream by a name that it made one of this
+/// machine's. No header allows other sites to read an answer. Of a reader 8 KiB are read at most, within 5 seconds.
 ///
 /// # A console that records nothing
 ///
@@ -125,7 +125,7 @@ impl Server {
             readers: Vec::new(),
             next: 1,
             read: None,
-            told: None,
+            sent: None,
             door_rests_until: None,
             all_rests_until: None,
             numbers_rest_until: None,
@@ -153,7 +153,7 @@ impl Server {
         self.counts.served()
     }
 
-    /// Sends a last line to all readers, which tells of every call that returned before this one, and ends. Readers that are slow have
+    /// Sends a last line to all readers, which has every call that returned before this one, and ends. Readers that are slow have
     /// a second for it. It waits 2 seconds at most.
     ///
     /// # Errors

@@ -82,7 +82,7 @@ impl SharedTask {
         self.0.cell.clone_waker(&self.0.console);
     }
 
-    /// Counts a waker as dropped. Where none is out, which the answer `false` says, nothing is counted.
+    /// Counts a waker as dropped. If none is out, which the answer `false` says, nothing is counted.
     #[inline]
     pub fn release_waker(&self) -> bool {
         self.step(|words| {
@@ -95,7 +95,7 @@ impl SharedTask {
         })
     }
 
-    /// A wake that uses a waker up. Where none is out nothing is counted, and there is no answer.
+    /// A wake that uses a waker up. If none is out nothing is counted, and there is no answer.
     #[inline]
     pub fn wake(&self, origin: Origin) -> Option<Woken> {
         let now = self.0.console.now();

@@ -1,8 +1,8 @@
-//! The items of one kind, as lines tell of them.
+//! The items of one kind, as lines publish them.
 
 use crate::fault::Fault;
 use crate::item::{Item, Lists};
-use crate::page::Page;
+use crate::line_entries::LineEntries;
 use crate::row::Reading;
 use std::cmp::Reverse;
 use std::collections::{BTreeMap, BinaryHeap};
@@ -10,24 +10,24 @@ use std::sync::Arc;
 
 /// The items of one kind.
 ///
-/// A line lists those that were told before in the order in which they were first told, and new ones after them: this order
+/// A line lists those that were published before in the order in which they first were, and new ones after them: this order
 /// is that of the tables to which the lines lead.
 #[derive(Debug)]
 pub(crate) struct Table<T> {
-    /// The items that were told and did not leave, by their places.
-    told: BTreeMap<u64, Arc<T>>,
+    /// The items that were published and did not leave, by their places.
+    published: BTreeMap<u64, Arc<T>>,
     last_place: u64,
-    /// Told items that are listed as changed.
+    /// Published items that are listed as changed.
     changed: Vec<Arc<T>>,
     fresh: Vec<Arc<T>>,
-    /// The told items that are closed, by the moment from which on they may leave, and their places.
+    /// The published items that are closed, by the moment from which on they may leave, and their places.
     closed: BinaryHeap<Reverse<(u64, u64)>>,
 }
 
 impl<T> Default for Table<T> {
     fn default() -> Table<T> {
         Table {
-            told: BTreeMap::new(),
+            published: BTreeMap::new(),
             last_place: 0,
             changed: Vec::new(),
             fresh: Vec::new(),
@@ -36,7 +36,7 @@ impl<T> Default for Table<T> {
     }
 }
 
-/// Which of the told items a line lists, before the new ones.
+/// Which of the published items a line lists, before the new ones.
 #[derive(Clone, Copy, Debug, PartialEq, Eq)]
 pub(crate) enum Listed {
     Changed,
@@ -44,40 +44,40 @@ pub(crate) enum Listed {
 }
 
 /// What the tables do alike, whatever their items are.
-pub(crate) trait Told {
+pub(crate) trait AnyTable {
     /// Takes the lists of this kind out of a shard, or without memory for them leaves them there.
     fn take(&mut self, fresh: &mut Lists, changed: &mut Lists) -> Result<(), Fault>;
 
-    /// Enters the items that a line lists, if there is memory to tell them.
-    fn enter(&mut self, listed: Listed, page: &mut Page);
+    /// Enters the items that a line lists, if there is memory to publish them.
+    fn enter(&mut self, listed: Listed, entries: &mut LineEntries);
 
     /// Whether an item may leave at a moment.
     fn may_leave(&self, moment: u64) -> bool;
 
-    /// The page that these were entered in was told.
-    fn tell(&mut self, listed: Listed, page: &Page, retention: Option<u64>);
+    /// The line of these entries was published.
+    fn publish(&mut self, listed: Listed, entries: &LineEntries, retention: Option<u64>);
 
-    /// Takes what is new and what changed as told, though no line tells it. Without memory it stays for the next call.
+    /// Takes what is new and what changed as published, though no line has it. Without memory it stays for the next call.
     fn pass(&mut self, retention: Option<u64>);
 }
 
-impl<T: Item> Told for Table<T> {
+impl<T: Item> AnyTable for Table<T> {
     fn take(&mut self, fresh: &mut Lists, changed: &mut Lists) -> Result<(), Fault> {
         move_all(T::list(fresh), &mut self.fresh)?;
         move_all(T::list(changed), &mut self.changed)
     }
 
-    fn enter(&mut self, listed: Listed, page: &mut Page) {
-        let closed_told = match listed {
-            Listed::Changed => self.enter_changes(page),
-            Listed::All => self.enter_all(page),
+    fn enter(&mut self, listed: Listed, entries: &mut LineEntries) {
+        let closed_before = match listed {
+            Listed::Changed => self.enter_changes(entries),
+            Listed::All => self.enter_all(entries),
         };
-        let closed_new = self.enter_fresh(page);
-        // What `tell` adds to these has room.
+        let closed_new = self.enter_fresh(entries);
+        // What `publish` adds to these has room.
         if self.changed.try_reserve(self.fresh.len()).is_err()
-            || self.closed.try_reserve(closed_told + closed_new).is_err()
+            || self.closed.try_reserve(closed_before + closed_new).is_err()
         {
-            page.lack_room();
+            entries.lack_room();
         }
     }
 
@@ -85,12 +85,12 @@ impl<T: Item> Told for Table<T> {
         self.closed.peek().map_or(false, |&Reverse((from, _))| from <= moment)
     }
 
-    fn tell(&mut self, listed: Listed, page: &Page, retention: Option<u64>) {
+    fn publish(&mut self, listed: Listed, entries: &LineEntries, retention: Option<u64>) {
         let first_fresh = match listed {
-            Listed::Changed => self.tell_changes(page, retention),
-            Listed::All => self.tell_all(page, retention),
+            Listed::Changed => self.publish_changes(entries, retention),
+            Listed::All => self.publish_all(entries, retention),
         };
-        self.tell_fresh(page, first_fresh, retention);
+        self.publish_fresh(entries, first_fresh, retention);
     }
 
     fn pass(&mut self, retention: Option<u64>) {
@@ -102,7 +102,7 @@ impl<T: Item> Told for Table<T> {
                 note_close::<T>(&mut self.closed, &reading, Some(place), retention);
                 if place > self.last_place {
                     self.last_place = place;
-                    self.told.insert(place, cell);
+                    self.published.insert(place, cell);
                 }
             }
         }
@@ -110,58 +110,58 @@ impl<T: Item> Told for Table<T> {
 }
 
 impl<T: Item> Table<T> {
-    /// Enters what changed, in the order of the places. Gives of how many items this tells the close first, as do the two below.
-    fn enter_changes(&mut self, page: &mut Page) -> usize {
+    /// Enters what changed, in the order of the places. Gives of how many items this is the first to say the close, as do the two below.
+    fn enter_changes(&mut self, entries: &mut LineEntries) -> usize {
         let mut changed: Vec<(u64, Arc<T>)> = Vec::new();
         if changed.try_reserve(self.changed.len()).is_err() {
-            page.lack_room();
+            entries.lack_room();
             return 0;
         }
         changed.extend(self.changed.drain(..).filter_map(|cell| Some((cell.row().changed_place()?, cell))));
         changed.sort_unstable_by_key(|(place, _)| *place);
         // Which has the room that it had.
         self.changed.extend(changed.into_iter().map(|(_, cell)| cell));
-        page.set_told(T::KIND, self.changed.len());
-        enter_each(self.changed.iter(), page)
+        entries.set_published(T::KIND, self.changed.len());
+        enter_each(self.changed.iter(), entries)
     }
 
-    /// Enters all items that were told.
-    fn enter_all(&mut self, page: &mut Page) -> usize {
-        page.set_told(T::KIND, self.told.len());
-        enter_each(self.told.values(), page)
+    /// Enters all items that were published.
+    fn enter_all(&mut self, entries: &mut LineEntries) -> usize {
+        entries.set_published(T::KIND, self.published.len());
+        enter_each(self.published.values(), entries)
     }
 
-    fn enter_fresh(&mut self, page: &mut Page) -> usize {
-        // Poll counts may be gone before a line told of them.
+    fn enter_fresh(&mut self, entries: &mut LineEntries) -> usize {
+        // Poll counts may be gone before a line has them.
         self.fresh.retain(|cell| !cell.row().is_gone());
-        enter_each(self.fresh.iter(), page)
+        enter_each(self.fresh.iter(), entries)
     }
 
-    /// What changed was told. Gives how many entries that were.
-    fn tell_changes(&mut self, page: &Page, retention: Option<u64>) -> usize {
+    /// What changed was published. Gives how many entries that were.
+    fn publish_changes(&mut self, entries: &LineEntries, retention: Option<u64>) -> usize {
         for (entry, cell) in self.changed.iter().enumerate() {
-            let place = cell.row().tell(T::entered(page, entry).now);
-            note_close::<T>(&mut self.closed, &T::entered(page, entry), place, retention);
+            let place = cell.row().publish(T::entered(entries, entry).now);
+            note_close::<T>(&mut self.closed, &T::entered(entries, entry), place, retention);
         }
         self.changed.len()
     }
 
-    /// All told items were told again. Gives how many entries that were.
-    fn tell_all(&mut self, page: &Page, retention: Option<u64>) -> usize {
-        for (entry, (place, cell)) in self.told.iter().enumerate() {
-            cell.row().tell(T::entered(page, entry).now);
-            note_close::<T>(&mut self.closed, &T::entered(page, entry), Some(*place), retention);
+    /// All published items were published again. Gives how many entries that were.
+    fn publish_all(&mut self, entries: &LineEntries, retention: Option<u64>) -> usize {
+        for (entry, (place, cell)) in self.published.iter().enumerate() {
+            cell.row().publish(T::entered(entries, entry).now);
+            note_close::<T>(&mut self.closed, &T::entered(entries, entry), Some(*place), retention);
         }
-        self.told.len()
+        self.published.len()
     }
 
-    /// The new items became told ones. `entry` is the first of theirs.
-    fn tell_fresh(&mut self, page: &Page, mut entry: usize, retention: Option<u64>) {
+    /// The new items became published ones. `entry` is the first of theirs.
+    fn publish_fresh(&mut self, entries: &LineEntries, mut entry: usize, retention: Option<u64>) {
         for cell in self.fresh.drain(..) {
             self.last_place += 1;
-            cell.row().tell_first(T::entered(page, entry).now, self.last_place);
-            note_close::<T>(&mut self.closed, &T::entered(page, entry), Some(self.last_place), retention);
-            self.told.insert(self.last_place, Arc::clone(&cell));
+            cell.row().publish_first(T::entered(entries, entry).now, self.last_place);
+            note_close::<T>(&mut self.closed, &T::entered(entries, entry), Some(self.last_place), retention);
+            self.published.insert(self.last_place, Arc::clone(&cell));
             self.changed.push(cell);
             entry += 1;
         }
@@ -169,21 +169,21 @@ impl<T: Item> Table<T> {
     }
 
     /// Enters the items that leave at a moment, and gives their places, with what they stood at in `closed`.
-    pub(crate) fn enter_leaving(&mut self, page: &mut Page, moment: u64, retention: u64) -> Vec<(u64, u64)> {
+    pub(crate) fn enter_leaving(&mut self, entries: &mut LineEntries, moment: u64, retention: u64) -> Vec<(u64, u64)> {
         let leaving = self.take_leaving(moment, retention);
         for (place, _) in &leaving {
-            if let Some(cell) = self.told.get(place) {
-                let told = cell.row().reading().told;
-                cell.enter(page, &Reading { now: told, told });
+            if let Some(cell) = self.published.get(place) {
+                let published = cell.row().reading().published;
+                cell.enter(entries, &Reading { now: published, published });
             }
         }
-        page.set_told(T::KIND, leaving.len());
+        entries.set_published(T::KIND, leaving.len());
         leaving
     }
 
     /// Takes the items that leave at a moment out of `closed`, in the order of their places. Those for which there is no memory stay.
     fn take_leaving(&mut self, moment: u64, retention: u64) -> Vec<(u64, u64)> {
-        let Table { told, closed, .. } = self;
+        let Table { published, closed, .. } = self;
         let mut leaving: Vec<(u64, u64)> = Vec::new();
         while let Some(&Reverse((from, place))) = closed.peek() {
             if from > moment || leaving.try_reserve(1).is_err() {
@@ -194,7 +194,7 @@ impl<T: Item> Table<T> {
         }
         leaving.sort_unstable();
         leaving.retain(|&(place, from)| {
-            let words = told.get(&place).map(|cell| cell.row().reading().told);
+            let words = published.get(&place).map(|cell| cell.row().reading().published);
             let leaves = words.map_or(false, |words| T::leaves(&words, moment, retention));
             if !leaves {
                 closed.push(Reverse((from, place)));
@@ -212,23 +212,23 @@ impl<T: Item> Table<T> {
 
     /// These items left. They are gone from the tables, and `left` gets each, with its words in the last line that had it.
     pub(crate) fn leave(&mut self, leaving: &[(u64, u64)], mut left: impl FnMut(&T, &T::Words)) {
-        for cell in leaving.iter().filter_map(|(place, _)| self.told.remove(place)) {
+        for cell in leaving.iter().filter_map(|(place, _)| self.published.remove(place)) {
             let words = cell.row().leave();
             left(&cell, &words);
         }
     }
 
-    /// Nothing is kept of an item, which no line tells of any more. Gives its words in the last line that had it.
+    /// Nothing is kept of an item that no line has any more. Gives its words in the last line that had it.
     pub(crate) fn forget(&mut self, cell: &T) -> T::Words {
         if let Some(place) = cell.row().place() {
-            self.told.remove(&place);
+            self.published.remove(&place);
         }
         cell.row().leave()
     }
 
     /// The items that are there, in the order in which a line lists them.
     pub(crate) fn all(&self) -> impl Iterator<Item = &T> {
-        self.told.values().chain(&self.fresh).map(|cell| &**cell)
+        self.published.values().chain(&self.fresh).map(|cell| &**cell)
     }
 
     /// How many items wait for the next line, as they are new.
@@ -249,30 +249,30 @@ fn move_all<T>(from: &mut Vec<T>, to: &mut Vec<T>) -> Result<(), Fault> {
     Ok(())
 }
 
-/// Enters items, and gives of how many a line of the page tells the close first.
-fn enter_each<'a, T: Item + 'a>(cells: impl Iterator<Item = &'a Arc<T>>, page: &mut Page) -> usize {
+/// Enters items, and gives of how many their line is the first to say the close.
+fn enter_each<'a, T: Item + 'a>(cells: impl Iterator<Item = &'a Arc<T>>, entries: &mut LineEntries) -> usize {
     let mut closed = 0;
     for cell in cells {
         let reading = cell.row().reading();
-        closed += usize::from(close_first_told::<T>(&reading).is_some());
-        cell.enter(page, &reading);
+        closed += usize::from(close_first_published::<T>(&reading).is_some());
+        cell.enter(entries, &reading);
     }
     closed
 }
 
-/// When the item was closed, where its close was not told before.
-fn close_first_told<T: Item>(reading: &Reading<T::Words>) -> Option<u64> {
-    T::closed(&reading.now).filter(|_| T::closed(&reading.told).is_none())
+/// When the item was closed, if its close was not published before.
+fn close_first_published<T: Item>(reading: &Reading<T::Words>) -> Option<u64> {
+    T::closed(&reading.now).filter(|_| T::closed(&reading.published).is_none())
 }
 
-/// Where a line is the first to tell an item's close, notes from when on the item may leave.
+/// If a line is the first to say an item's close, notes from when on the item may leave.
 fn note_close<T: Item>(
     closed: &mut BinaryHeap<Reverse<(u64, u64)>>,
     reading: &Reading<T::Words>,
     place: Option<u64>,
     retention: Option<u64>,
 ) {
-    if let (Some(at), Some(place), Some(retention)) = (close_first_told::<T>(reading), place, retention) {
+    if let (Some(at), Some(place), Some(retention)) = (close_first_published::<T>(reading), place, retention) {
         closed.push(Reverse((at.saturating_add(retention), place)));
     }
 }

@@ -5,9 +5,9 @@ use crate::console::{Console, Inner};
 use crate::ffi::{self, TaskEntry, TimesEntry, Words};
 use crate::id::TaskId;
 use crate::item::{closed, Item, ItemKind, Lists};
+use crate::line_entries::LineEntries;
 use crate::location::{Location, Made};
 use crate::name::Name;
-use crate::page::Page;
 use crate::refused::{done, woken, Refused, Woken};
 use crate::row::{Reading, Row};
 use std::borrow::Cow;
@@ -68,12 +68,12 @@ impl fmt::Display for Origin {
 pub(crate) struct TaskWords {
     pub(crate) row: Words,
     pub(crate) times: Words,
-    /// Those of the histogram of its waits, where one is kept.
+    /// Those of the histogram of its waits, if one is kept.
     pub(crate) waits: Option<Words>,
 }
 
 impl TaskWords {
-    /// The words of a new task, whose waits are counted or not. Where histograms are kept, one is of them.
+    /// The words of a new task, whose waits are counted or not. If histograms are kept, one is of them.
     pub(crate) fn opening(created: u64, waits: bool, times: bool) -> TaskWords {
         let mut words = TaskWords::default();
         // SAFETY: the words are lent for the calls.
@@ -89,7 +89,7 @@ impl TaskWords {
         words
     }
 
-    /// A poll starts. Where a histogram of waits is kept, how long the wait took that this ends is added to it.
+    /// A poll starts. If a histogram of waits is kept, how long the wait took that this ends is added to it.
     #[inline]
     pub(crate) fn start(&mut self, now: u64) -> u32 {
         // SAFETY: the words are lent for the call.
@@ -101,7 +101,7 @@ impl TaskWords {
         }
     }
 
-    /// The open poll ends. Where histograms are kept, how long it ran is added to the task's.
+    /// The open poll ends. If histograms are kept, how long it ran is added to the task's.
     #[inline]
     pub(crate) fn end(&mut self, now: u64, times: bool) -> u32 {
         // SAFETY: the words are lent for the call.
@@ -136,48 +136,48 @@ impl Item for TaskCell {
         &mut lists.tasks
     }
 
-    fn enter(&self, page: &mut Page, reading: &Reading<TaskWords>) {
+    fn enter(&self, entries: &mut LineEntries, reading: &Reading<TaskWords>) {
         let entry = TaskEntry {
             row: reading.now.row,
-            told: reading.told.row,
+            told: reading.published.row,
             id: self.id,
-            name: page.piece(&self.name),
-            file: page.piece(&self.location.file),
+            name: entries.piece(&self.name),
+            file: entries.piece(&self.location.file),
             line: self.location.line,
             column: self.location.column,
             kind: self.kind.for_library(),
         };
         let times = TimesEntry {
             row: reading.now.times,
-            told: reading.told.times,
+            told: reading.published.times,
             waits: reading.now.waits.unwrap_or_default(),
-            told_waits: reading.told.waits.unwrap_or_default(),
+            told_waits: reading.published.waits.unwrap_or_default(),
             task: self.id,
             waited: reading.now.waits.is_some(),
         };
-        page.add_task(entry, times);
+        entries.add_task(entry, times);
     }
 
-    fn entered(page: &Page, place: usize) -> Reading<TaskWords> {
-        let entry = &page.tasks[place];
+    fn entered(entries: &LineEntries, place: usize) -> Reading<TaskWords> {
+        let entry = &entries.tasks[place];
         let mut now = TaskWords { row: entry.row, ..TaskWords::default() };
-        let mut told = TaskWords { row: entry.told, ..TaskWords::default() };
+        let mut published = TaskWords { row: entry.told, ..TaskWords::default() };
         // The histograms stand in the order of the tasks, or are none.
-        if let Some(times) = page.times.get(place) {
-            (now.times, told.times) = (times.row, times.told);
+        if let Some(times) = entries.times.get(place) {
+            (now.times, published.times) = (times.row, times.told);
             now.waits = times.waited.then_some(times.waits);
-            told.waits = times.waited.then_some(times.told_waits);
+            published.waits = times.waited.then_some(times.told_waits);
         }
-        Reading { now, told }
+        Reading { now, published }
     }
 
     fn closed(words: &TaskWords) -> Option<u64> {
         closed(&words.row)
     }
 
-    fn leaves(told: &TaskWords, moment: u64, retention: u64) -> bool {
+    fn leaves(published: &TaskWords, moment: u64, retention: u64) -> bool {
         // SAFETY: the words are lent for the call.
-        unsafe { ffi::taskscope_task_leaves(&told.row, moment, retention) }
+        unsafe { ffi::taskscope_task_leaves(&published.row, moment, retention) }
     }
 }
 
@@ -256,8 +256,8 @@ impl<'a> TaskBuilder<'a> {
         TaskBuilder { made: Made::At(location.into()), ..self }
     }
 
-    /// Makes the task, created now, and gives its owner. Where the thread's recorder is full it is counted as dropped: its
-    /// owner and wakers work all the same, and no line tells of it.
+    /// Makes the task, created now, and gives its owner. If the thread's recorder is full it is counted as dropped: its
+    /// owner and wakers work all the same, and no line has it.
     pub fn open(self) -> Task {
         let console = self.console.inner();
         let created = console.now();
@@ -291,7 +291,7 @@ impl Task {
     /// Whether lines have the task. They don't if its recorder was full or had no number for it, which counts it as dropped, or if the
     /// console isn't [active](crate::Console::is_active).
     pub fn is_recorded(&self) -> bool {
-        self.console.tells(&*self.cell)
+        self.console.publishes(&*self.cell)
     }
 
     /// A poll starts now.

@@ -35,8 +35,8 @@ fn connect_port(server: &Server) -> TcpStream {
     }
 }
 
-/// Whether a child is being started: up to its own program it has a copy of each socket of this process, so that one which was let go listens
-/// on for a moment.
+/// Whether a child is being started: up to its own program it has a copy of each socket of this process, so that one which was
+/// let go listens on for a moment.
 static FORKS: RwLock<()> = RwLock::new(());
 
 /// While this is held no test starts a child.

@@ -1,5 +1,5 @@
-//! How long tasks waited: a line tells beside `sched` how long in all, each wait from its first wake on, and in a histogram how many waits took
-//! how long.
+//! How long tasks waited: a line tells beside `sched` how long in all, each wait from its first wake on, and in a histogram how
+//! many waits took how long.
 
 mod common;
 

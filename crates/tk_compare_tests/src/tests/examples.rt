@@ -115,8 +115,14 @@ fn less_than_the_least_is_no_change(rt: HostRuntime) {
 
 #[test]
 fn more_polls_that_each_take_as_long_are_no_change(rt: HostRuntime) {
-    assert!(rt; changes(rt.alloc(), BEFORE, BUSY, USUAL, 0, NO_CHANGE));
-    assert!(rt; changes(rt.alloc(), BUSY, BEFORE, USUAL, 0, NO_CHANGE));
+    assert!(rt;
+        changes(rt.alloc(), BEFORE, BUSY, USUAL, 0, NO_CHANGE),
+        "more polls after"
+    );
+    assert!(rt;
+        changes(rt.alloc(), BUSY, BEFORE, USUAL, 0, NO_CHANGE),
+        "fewer polls after"
+    );
 }
 
 #[test]

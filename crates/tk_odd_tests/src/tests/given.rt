@@ -40,7 +40,7 @@ pub(super) fn answers<R: Read, W: Write>(
     answer: Result<u64, AppFault>,
 ) -> bool {
     let limits = limits_by(Lints::default(), long_ms);
-    view_findings(alloc, reader, writer, view, limits, false) == answer
+    view_findings(alloc, reader, writer, view, limits, None, false) == answer
 }
 
 // Whether it does, and has written this text.
@@ -56,4 +56,27 @@ pub(super) fn finds(
     let mut written = Vec::new(alloc);
     answers(alloc, &mut reader, &mut written, view, long_ms, Ok(count))
         && written.as_slice() == wanted.as_bytes()
+}
+
+// Whether the findings of a stream since a moment are as many, and have these lines.
+pub(super) fn finds_since(
+    alloc: Global,
+    stream: &'static [u8],
+    since: Option<u64>,
+    count: u64,
+    wanted: &str,
+) -> bool {
+    let mut reader = stream;
+    let mut written = Vec::new(alloc);
+    let limits = limits_by(Lints::default(), None);
+    let found = view_findings(
+        alloc,
+        &mut reader,
+        &mut written,
+        View::Lint,
+        limits,
+        since,
+        false,
+    );
+    found == Ok(count) && written.as_slice() == wanted.as_bytes()
 }

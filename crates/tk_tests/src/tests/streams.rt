@@ -194,7 +194,13 @@ fn warns<R: Threads + Wait + Sync + AllocGlobal>(
 
 #[test]
 fn warns_of_what_the_examples_show(rt: HostRuntime) -> Result<(), Fail> {
-    assert!(rt; warns(&rt, script::wakes_itself(), 1, WarningKind::SelfWakes));
-    assert!(rt; warns(&rt, script::lost_waker(), 1, WarningKind::LostWaker));
+    assert!(rt;
+        warns(&rt, script::wakes_itself(), 1, WarningKind::SelfWakes),
+        "the example that wakes itself"
+    );
+    assert!(rt;
+        warns(&rt, script::lost_waker(), 1, WarningKind::LostWaker),
+        "the example of a lost waker"
+    );
     Ok(())
 }

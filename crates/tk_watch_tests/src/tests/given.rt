@@ -88,7 +88,7 @@ no finding now or earlier: 1 task waits, the longest for 1.0 ms
 ";
 
 pub(super) const AGAIN_SCREEN: &str =
-    "now 2 ns, started again  tasks 1: 0 polling, 1 scheduled, 0 idle, 0 closed  findings 0
+    "now 2 ns, started again 0 ns ago  tasks 1: 0 polling, 1 scheduled, 0 idle, 0 closed  findings 0
 waiting  _#  at most 1
 no finding now; who holds up others can't be seen: the lines span 0 ns, and it takes at least 100.0 ms
   TASK STATE         BUSY    SCHED  POLLS  WAKES SELF LOCATION        NAME                 KIND

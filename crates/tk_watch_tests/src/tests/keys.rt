@@ -144,9 +144,15 @@ fn a_key_sorts_and_one_chooses_a_task_below(rt: HostRuntime) {
 #[test]
 fn a_task_above_is_chosen_again_and_other_keys_change_nothing(rt: HostRuntime) {
     let events = [Bytes(ODD), key(b'j'), key(b'k'), key(b'k'), key(b'x'), DUE];
-    assert!(rt; draws(rt.alloc(), &events, "", ODD_BY_BUSY, 6));
+    assert!(rt;
+        draws(rt.alloc(), &events, "", ODD_BY_BUSY, 6),
+        "k chooses the task above, and x nothing"
+    );
     let capitals = [Bytes(ODD), key(b'B'), DUE];
-    assert!(rt; draws(rt.alloc(), &capitals, "", ODD_BY_BUSY, 3));
+    assert!(rt;
+        draws(rt.alloc(), &capitals, "", ODD_BY_BUSY, 3),
+        "a capital B changes nothing"
+    );
 }
 
 // By how long others waited, of which none did: then by how long its own tasks waited.
@@ -194,9 +200,15 @@ fn places_are_sorted_and_chosen(rt: HostRuntime) {
         DUE,
     ];
     let both = format!(in rt.alloc(); "{PLACES_BY_BUSY}{BY_PLACE}").expect(&rt, "memory");
-    assert!(rt; draws(rt.alloc(), &events, "", both.as_str(), 8));
+    assert!(rt;
+        draws(rt.alloc(), &events, "", both.as_str(), 8),
+        "places by busy, and then by held-up"
+    );
     let second = [Bytes(ODD), key(b'g'), key(b'b'), key(b'j'), key(b'j'), DUE];
-    assert!(rt; draws(rt.alloc(), &second, "", PLACES_BY_BUSY, 6));
+    assert!(rt;
+        draws(rt.alloc(), &second, "", PLACES_BY_BUSY, 6),
+        "j chooses no place below the last"
+    );
 }
 
 // What places came to in all, and since the line that came 5.5 s before.
@@ -243,9 +255,15 @@ fn a_key_shows_what_places_came_to_lately(rt: HostRuntime) {
         key(b'R'),
         DUE,
     ];
-    assert!(rt; draws(rt.alloc(), &events, "", IN_ALL_AND_RECENT, 8));
+    assert!(rt;
+        draws(rt.alloc(), &events, "", IN_ALL_AND_RECENT, 8),
+        "R shows what came lately, among places alone"
+    );
     let first = [Bytes(EARLY), key(b'g'), key(b'R'), DUE];
-    assert!(rt; draws(rt.alloc(), &first, "", SO_FAR, 4));
+    assert!(rt;
+        draws(rt.alloc(), &first, "", SO_FAR, 4),
+        "after one line R shows the whole time so far"
+    );
 }
 
 const PLACE_OPENED: &str = "by place, sorted by held-up  ? shows the keys
@@ -263,9 +281,15 @@ const PLACE_OPENED: &str = "by place, sorted by held-up  ? shows the keys
 #[test]
 fn enter_shows_all_of_the_chosen_place(rt: HostRuntime) {
     let events = [Bytes(ODD), key(b'g'), key(b'\n'), DUE];
-    assert!(rt; draws(rt.alloc(), &events, "", PLACE_OPENED, 4));
+    assert!(rt;
+        draws(rt.alloc(), &events, "", PLACE_OPENED, 4),
+        "enter opens the chosen place"
+    );
     let back = [Bytes(ODD), key(b'g'), key(b'\r'), key(b'\r'), DUE];
-    assert!(rt; draws(rt.alloc(), &back, "", BY_PLACE, 5));
+    assert!(rt;
+        draws(rt.alloc(), &back, "", BY_PLACE, 5),
+        "a second enter shows the places again"
+    );
 }
 
 const PLACES_FILTERED: &str = "by place, sorted by held-up  /t:2_  ? shows the keys
@@ -367,9 +391,15 @@ fn a_text_is_typed_and_names_what_is_shown(rt: HostRuntime) {
         key(b'n'),
         DUE,
     ];
-    assert!(rt; draws(rt.alloc(), &typed, "", FILTERED, 8));
+    assert!(rt;
+        draws(rt.alloc(), &typed, "", FILTERED, 8),
+        "tasks are filtered by the typed text"
+    );
     let ended = [key(b'/'), key(b'q'), key(b'\n'), key(b'q'), DUE];
-    assert!(rt; draws(rt.alloc(), &ended, "", "", 4));
+    assert!(rt;
+        draws(rt.alloc(), &ended, "", "", 4),
+        "q is typed into the text, and quits after it"
+    );
 }
 
 // On a terminal of 20 columns and 6 lines, without colors.
@@ -399,7 +429,10 @@ fn it_is_said_for_how_long_nothing_came(rt: HostRuntime) {
         key(b'w'),
         DUE,
     ];
-    assert!(rt; draws(rt.alloc(), &silent, "", SILENT, 7));
+    assert!(rt;
+        draws(rt.alloc(), &silent, "", SILENT, 7),
+        "the screen says for how long nothing came"
+    );
     let over = [
         Bytes(ODD),
         key(b'\x1b'),
@@ -412,7 +445,10 @@ fn it_is_said_for_how_long_nothing_came(rt: HostRuntime) {
         key(b'w'),
         DUE,
     ];
-    assert!(rt; draws(rt.alloc(), &over, "", ODD_BY_BUSY, 10));
+    assert!(rt;
+        draws(rt.alloc(), &over, "", ODD_BY_BUSY, 10),
+        "a silence that is over isn't said"
+    );
 }
 
 #[test]
@@ -437,7 +473,10 @@ fn a_terminal_tells_its_size(rt: HostRuntime) {
         key(b't'),
         DUE,
     ];
-    assert!(rt; draws_on(rt.alloc(), 10, canvas, &answer, "", RESIZED, 11));
+    assert!(rt;
+        draws_on(rt.alloc(), 10, canvas, &answer, "", RESIZED, 11),
+        "the terminal tells its size itself"
+    );
     let corner = [
         Bytes(ODD),
         key(b'\x1b'),
@@ -449,7 +488,10 @@ fn a_terminal_tells_its_size(rt: HostRuntime) {
         key(b'R'),
         DUE,
     ];
-    assert!(rt; draws_on(rt.alloc(), 10, canvas, &corner, "", RESIZED, 9));
+    assert!(rt;
+        draws_on(rt.alloc(), 10, canvas, &corner, "", RESIZED, 9),
+        "the place of the corner tells the size"
+    );
 }
 
 const ODD_DETAILS: &str = "sorted by busy  ? shows the keys
@@ -484,12 +526,21 @@ closed       -
 #[test]
 fn enter_shows_all_of_the_chosen_task(rt: HostRuntime) {
     let events = [Bytes(ODD), key(b'j'), key(b'\n'), DUE];
-    assert!(rt; draws(rt.alloc(), &events, "", ODD_DETAILS, 4));
+    assert!(rt;
+        draws(rt.alloc(), &events, "", ODD_DETAILS, 4),
+        "enter opens the chosen task"
+    );
     let events = [Bytes(ODD), key(b'2'), DUE];
-    assert!(rt; draws(rt.alloc(), &events, "", ODD_DETAILS, 3));
+    assert!(rt;
+        draws(rt.alloc(), &events, "", ODD_DETAILS, 3),
+        "a digit opens the task of that finding"
+    );
     let arrow = [key(b'\x1b'), key(b'['), key(b'B')];
     let events = [Bytes(ODD), arrow[0], arrow[1], arrow[2], key(b'\n'), DUE];
-    assert!(rt; draws(rt.alloc(), &events, "", ODD_DETAILS, 6));
+    assert!(rt;
+        draws(rt.alloc(), &events, "", ODD_DETAILS, 6),
+        "an arrow chooses as j does"
+    );
 }
 
 const TIMED_DETAILS: &str = "sorted by busy  ? shows the keys
@@ -553,6 +604,7 @@ kind         spawn
 location     script:1:1
 state        scheduled
 operation    Semaphore::acquire on resource 1.1, idle, first polled 10 ns ago
+resource     Semaphore (Sync) script:2:1, permits 3, closed false
 polls        0
 busy         0 ns
 first poll   -
@@ -675,9 +727,15 @@ no finding now; who holds up others can't be seen: the lines span 0 ns, and it t
 fn at_a_fault_what_stands_is_drawn(rt: HostRuntime) {
     let events = [Bytes(FIRST), Bytes(THIRD), DUE];
     let fault = "stream after 1 lines: Gap expected 2 found 3";
-    assert!(rt; draws(rt.alloc(), &events, fault, FIRST_SCREEN, 2));
+    assert!(rt;
+        draws(rt.alloc(), &events, fault, FIRST_SCREEN, 2),
+        "what stands before the line with the fault"
+    );
     let events = [Bytes(FIRST), Is(Event::Broken), DUE];
-    assert!(rt; draws(rt.alloc(), &events, "Read", "", 2));
+    assert!(rt;
+        draws(rt.alloc(), &events, "Read", "", 2),
+        "a read that fails draws nothing"
+    );
 }
 
 // Whether a watch by threads of the stream, which a key quits or nobody, ends well.
@@ -706,6 +764,6 @@ fn ends<R: Threads + Wait + Clock + Copy + Send + Sync + Drop + 'static>(
 
 #[test]
 fn threads_read_until_a_key_quits_or_none_comes(rt: HostRuntime) {
-    assert!(rt; ends(&rt, rt.alloc(), b"pq"));
-    assert!(rt; ends(&rt, rt.alloc(), b""));
+    assert!(rt; ends(&rt, rt.alloc(), b"pq"), "the key q quits");
+    assert!(rt; ends(&rt, rt.alloc(), b""), "no key comes");
 }

@@ -32,13 +32,17 @@ fn no_two_screens_are_within_a_span(rt: HostRuntime) {
         millis: Cell::new(5),
     };
     let mut pace = Every::new(&clock, 100, false);
-    assert!(rt; pace.is_due());
+    assert!(rt; pace.is_due(), "the first screen is due");
     pace.mark();
-    assert!(rt; !pace.is_due());
+    assert!(rt; !pace.is_due(), "no screen is due right after one");
     pace.wait();
-    assert_eq!(rt; clock.millis.get(), 105);
-    assert!(rt; pace.is_due());
-    assert!(rt; !pace.goes_on());
+    assert_eq!(rt;
+        clock.millis.get(),
+        105,
+        "the wait ends a span after the screen"
+    );
+    assert!(rt; pace.is_due(), "a screen is due after the span");
+    assert!(rt; !pace.goes_on(), "a stream that isn't followed ends");
 }
 
 #[test]
@@ -48,7 +52,7 @@ fn a_stream_is_followed_after_some_time(rt: HostRuntime) {
     };
     let mut pace = Every::new(&clock, 0, true);
     pace.mark();
-    assert!(rt; pace.is_due());
-    assert!(rt; pace.goes_on());
-    assert_eq!(rt; clock.millis.get(), 50);
+    assert!(rt; pace.is_due(), "without a span each screen is due");
+    assert!(rt; pace.goes_on(), "a followed stream goes on");
+    assert_eq!(rt; clock.millis.get(), 50, "it goes on after 50 ms");
 }

@@ -84,26 +84,35 @@ fn a_screen_is_read_as_text(rt: HostRuntime) {
         by_place: false,
         canvas: Canvas::Plain,
     };
-    assert!(rt; shows(rt.alloc(), ODD, PLAIN, ODD_SCREEN));
-    assert!(rt; shows(rt.alloc(), SEMAPHORE, with_resources, SEMAPHORE_SCREEN));
+    assert!(rt;
+        shows(rt.alloc(), ODD, PLAIN, ODD_SCREEN),
+        "the screen of tasks"
+    );
+    assert!(rt;
+        shows(rt.alloc(), SEMAPHORE, with_resources, SEMAPHORE_SCREEN),
+        "the screen with resources"
+    );
 }
 
 #[test]
 fn tasks_are_sorted_and_filtered(rt: HostRuntime) {
     for (sort, filter, end) in [
-        (Column::Polls, b"".as_slice(), BY_POLLS),
-        (Column::SelfWakes, b"main".as_slice(), WITH_AIN),
-        (Column::Busy, b"ain".as_slice(), WITH_AIN),
-        (Column::Polls, b"crip".as_slice(), BY_POLLS),
+        (Column::Polls, "", BY_POLLS),
+        (Column::SelfWakes, "main", WITH_AIN),
+        (Column::Busy, "ain", WITH_AIN),
+        (Column::Polls, "crip", BY_POLLS),
     ] {
         let asked = Asked {
             sort,
-            filter,
+            filter: filter.as_bytes(),
             resources: false,
             by_place: false,
             canvas: Canvas::Plain,
         };
-        assert!(rt; ends_with(rt.alloc(), asked, end));
+        assert!(rt;
+            ends_with(rt.alloc(), asked, end),
+            "the text '{filter}' filters"
+        );
     }
 }
 
@@ -145,7 +154,16 @@ fn on_terminal(alloc: Global, lines: usize, colors: bool, wanted: &str) -> bool 
 
 #[test]
 fn a_terminal_is_drawn_over_and_not_left(rt: HostRuntime) {
-    assert!(rt; on_terminal(rt.alloc(), 4, true, NARROW_SCREEN));
-    assert!(rt; on_terminal(rt.alloc(), 3, false, DULL_SCREEN));
-    assert!(rt; on_terminal(rt.alloc(), 0, true, "\x1b[H\x1b[J"));
+    assert!(rt;
+        on_terminal(rt.alloc(), 4, true, NARROW_SCREEN),
+        "a terminal of four lines in colors"
+    );
+    assert!(rt;
+        on_terminal(rt.alloc(), 3, false, DULL_SCREEN),
+        "a terminal of three lines without colors"
+    );
+    assert!(rt;
+        on_terminal(rt.alloc(), 0, true, "\x1b[H\x1b[J"),
+        "a terminal of no lines"
+    );
 }

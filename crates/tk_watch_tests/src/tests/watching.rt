@@ -80,8 +80,14 @@ fn what_comes_in_half_lines_is_not_waited_for(rt: HostRuntime) {
 fn a_stream_that_is_followed_goes_on_at_its_end(rt: HostRuntime) {
     let lines = [FIRST, b"", SECOND, b"", THIRD];
     let screens = [FIRST_SCREEN, SECOND_SCREEN, THIRD_SCREEN];
-    assert!(rt; draws(rt.alloc(), lines, 9, 2, "", 0, &screens));
-    assert!(rt; draws(rt.alloc(), lines, 9, 0, "", 0, &[FIRST_SCREEN]));
+    assert!(rt;
+        draws(rt.alloc(), lines, 9, 2, "", 0, &screens),
+        "two more lines come after ends"
+    );
+    assert!(rt;
+        draws(rt.alloc(), lines, 9, 0, "", 0, &[FIRST_SCREEN]),
+        "the end is the last if it isn't followed"
+    );
 }
 
 #[test]

@@ -17,7 +17,7 @@ pub(super) fn of_task(text: &mut Text, task: &TaskCell) -> fmt::Result {
 /// The label of all resources of a type.
 pub(super) fn of_resource(text: &mut Text, resource: &ResourceCell) -> fmt::Result {
     text.write_str("type=\"")?;
-    value(text, resource.concrete.as_str())?;
+    value(text, resource.type_name.as_str())?;
     text.write_str("\"")
 }
 

@@ -233,7 +233,7 @@ mod tests {
     }
 
     // What is done to a task that was created at 100; and at 1000 how long its polls ran, how long it waited, which state it is in,
-    // how long its poll runs, and its wait lasts. Then how long it waited, and its wait lasts, where waits are not counted.
+    // how long its poll runs, and its wait lasts. Then how long it waited, and its wait lasts, if waits are not counted.
     #[rustfmt::skip]
     const AT_1000: [(&str, Calls, [u64; 5], [u64; 2]); 9] = [
         ("it was never polled",            &[],                                               [0, 900, 1, 0, 900],   [0, 900]),

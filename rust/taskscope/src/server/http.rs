@@ -10,7 +10,7 @@ pub(super) const LONGEST_REQUEST: usize = 8192;
 pub(super) enum Follows {
     /// Lines, for as long as the reader stays.
     Lines,
-    /// One line that tells all.
+    /// One line that says all.
     Snapshot,
     /// The answer itself, with the numbers of now.
     Numbers,
@@ -102,7 +102,7 @@ impl Port {
              taskscope watch tcp:{port}             what they do, as it changes\n\
              taskscope view tcp:{port}              what is now\n\
              curl -sN http://{port}/stream          the lines, as they come\n\
-             curl -s http://{port}/snapshot         one line that tells all\n\
+             curl -s http://{port}/snapshot         one line that says all\n\
              curl -s http://{port}/metrics          numbers for Prometheus\n"
         )
     }

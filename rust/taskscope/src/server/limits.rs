@@ -19,7 +19,7 @@ pub struct Limits {
     /// How many readers there are at a time: 64. One more is let in, and its connection is closed at once.
     pub readers: usize,
     /// How many bytes may wait for one reader behind the text that it is taking: 4 MiB. With more it is behind: it gets none of
-    /// them, and once it has taken its text a line that tells all.
+    /// them, and once it has taken its text a line that says all.
     pub waiting: usize,
     /// How many bytes may wait for all readers together, and what several wait for counts once: 128 MiB. With more, the reader that
     /// has been taking one text for the longest is sent away, until one reader is left for which something waits.
@@ -108,7 +108,7 @@ pub struct Served {
     pub waiting: u64,
     /// How many came.
     pub came: u64,
-    /// How many of them were sent away at once, as there were too many, or as no line can tell all: it would have more than 256 MiB.
+    /// How many of them were sent away at once, as there were too many, or as no line can say all: it would have more than 256 MiB.
     pub refused: u64,
     /// How many were sent away as they took nothing for too long, or as too many bytes waited for all.
     pub sent_away: u64,
@@ -116,7 +116,7 @@ pub struct Served {
     pub behind: u64,
     /// How many times rows were read, each time for all readers.
     pub readings: u64,
-    /// How many lines were made that tell all.
+    /// How many lines were made that say all.
     pub snapshots: u64,
     /// How many times numbers were made for `GET /metrics`, each time for all that wait for them.
     pub numbers: u64,

@@ -19,7 +19,7 @@ const ASKING: Duration = Duration::from_secs(5);
 pub(super) enum Standing {
     /// It may still ask for something.
     Asks,
-    /// The next line for it is to tell all, as it is new or was behind. Lines between were not made for it.
+    /// The next line for it is to say all, as it is new or was behind. Lines between were not made for it.
     NeedsAll,
     /// It asked for numbers.
     NeedsNumbers,
@@ -57,7 +57,7 @@ struct Buffer {
     bytes: Arc<Bytes>,
     /// How many of the bytes are for this reader.
     len: usize,
-    /// The number of its first line, where it has any.
+    /// The number of its first line, if it has any.
     first: Option<u64>,
 }
 
@@ -65,7 +65,7 @@ pub(super) struct Reader {
     wire: Wire,
     standing: Standing,
     came: Instant,
-    /// Since when it has been in the text that it is taking, or wants a line that tells all.
+    /// Since when it has been in the text that it is taking, or wants a line that says all.
     since: Instant,
     /// When it last took a byte, or had taken all.
     moved: Instant,
@@ -74,7 +74,7 @@ pub(super) struct Reader {
     said_all: bool,
     /// Whether it wants no line after the first.
     once: bool,
-    /// The number of its next line, where it had one.
+    /// The number of its next line, if it had one.
     next: Option<u64>,
     waiting: VecDeque<Buffer>,
     /// How many bytes of the first buffer were taken.
@@ -106,7 +106,7 @@ impl Reader {
         self.standing
     }
 
-    /// Since when it has been in the text that it is taking, or wants a line that tells all.
+    /// Since when it has been in the text that it is taking, or wants a line that says all.
     pub(super) fn since(&self) -> Instant {
         self.since
     }
@@ -120,7 +120,7 @@ impl Reader {
         !self.waiting.is_empty()
     }
 
-    /// Whether it can take a line that tells all.
+    /// Whether it can take a line that says all.
     pub(super) fn is_due_all(&self) -> bool {
         self.standing == Standing::NeedsAll && self.waiting.is_empty()
     }

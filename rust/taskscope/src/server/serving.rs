@@ -18,7 +18,7 @@ use std::time::{Duration, Instant};
 const LAST_HAND_ON: Duration = Duration::from_secs(1);
 /// How long nobody is let in after an error, as there are no descriptors.
 const DOOR_RESTS: Duration = Duration::from_millis(200);
-/// For so many times as long as a line that tells all took, and no longer than this, no other one is made: they take a quarter of the
+/// For so many times as long as a line that says all took, and no longer than this, no other one is made: they take a quarter of the
 /// time of the thread, however many readers come and go. So it is with numbers.
 const ALL_RESTS: u32 = 3;
 const LONGEST_REST: Duration = Duration::from_secs(2);
@@ -31,7 +31,7 @@ const AT_A_TIME: usize = 64;
 
 /// What the thread of a server has.
 ///
-/// Rows are read once for all readers. All that want the same line under the same number share it. Of lines that tell all one is made
+/// Rows are read once for all readers. All that want the same line under the same number share it. Of lines that say all one is made
 /// at a time: for the reader that has waited for the longest, and those of its number.
 pub(super) struct Serving {
     pub(super) claim: Claim,
@@ -48,7 +48,7 @@ pub(super) struct Serving {
     /// When rows were read.
     pub(super) read: Option<Instant>,
     /// When a line was made.
-    pub(super) told: Option<Instant>,
+    pub(super) sent: Option<Instant>,
     pub(super) door_rests_until: Option<Instant>,
     pub(super) all_rests_until: Option<Instant>,
     pub(super) numbers_rest_until: Option<Instant>,
@@ -78,7 +78,7 @@ impl Serving {
         outcome.map_err(|fault| io::Error::new(ErrorKind::Other, fault))
     }
 
-    /// A last line for all, and some time for those that are slow. Who was behind gets a line that tells all once it has taken what waits.
+    /// A last line for all, and some time for those that are slow. Who was behind gets a line that says all once it has taken what waits.
     fn end(&mut self) -> Result<(), Fault> {
         let until = Instant::now() + LAST_HAND_ON;
         self.publish(Instant::now(), true)?;
@@ -98,7 +98,7 @@ impl Serving {
         }
     }
 
-    /// When rows are read next, where that is not only once somebody comes.
+    /// When rows are read next, if that is not only once somebody comes.
     fn due(&self, now: Instant) -> Option<Instant> {
         let read = match self.read {
             Some(read) if !self.claim.is_filling() => read,
@@ -126,7 +126,7 @@ impl Serving {
             changes,
             all: waiting.min_by_key(|reader| reader.since()).map(number),
             most: LONGEST_LINE,
-            unless_unchanged: !is_last && self.told.map_or(false, |told| now - told < SIGN_OF_LIFE),
+            unless_unchanged: !is_last && self.sent.map_or(false, |sent| now - sent < SIGN_OF_LIFE),
         }
     }
 
@@ -149,7 +149,7 @@ impl Serving {
                 self.hand_out(&wanted, lines, now);
                 Ok(())
             }
-            // The next line tells what this one would have told.
+            // The next line has what this one would have had.
             Err(Fault::Memory) => Ok(()),
             Err(fault) => Err(fault),
         }
@@ -158,9 +158,9 @@ impl Serving {
     /// Gives each reader the line that it wants.
     fn hand_out(&mut self, wanted: &Wanted, lines: Lines, now: Instant) {
         if lines.count > 0 {
-            self.told = Some(now);
+            self.sent = Some(now);
         } else if wanted.all.is_some() {
-            // Nobody could be told anything.
+            // Nobody could be sent anything.
             self.claim.console().pass();
         }
         let (held, next, most, counts) = (&self.held, self.next, self.limits.waiting, &self.counts);

@@ -130,7 +130,7 @@ mod linux {
     const SOCKET: c_int = 1;
     const SEND_BUFFER: c_int = 7;
 
-    /// Has the system keep no more than about so many bytes for a reader: they grow old there. Where it refuses, it keeps more.
+    /// Has the system keep no more than about so many bytes for a reader: they grow old there. If it refuses, it keeps more.
     pub(in super::super) fn keep_little(stream: &TcpStream, most: c_int) {
         // SAFETY: the number is lent for the call, with its size.
         unsafe { setsockopt(stream.as_raw_fd(), SOCKET, SEND_BUFFER, &most, size_of::<c_int>() as u32) };

@@ -1,5 +1,5 @@
 use Rattle.std.proofs.Common.{ap, ap₂, ◌∙◌, codes, is_some, sym, [], unwrap_or}
-use Rattle.taskscope.specs.Requests.{asked_in, before_in, explains_in, file_in, filter_in, texts, title_in, to_in, until_in}
+use Rattle.taskscope.specs.Requests.{asked_in, before_in, explains_in, file_in, filter_in, texts, since_in, title_in, to_in, until_in}
 use Rattle.taskscope.proofs.ParseLemmas.{taken_words_ask}
 use Rattle.taskscope.proofs.command_line.call_of.Goals as goal
 
@@ -32,6 +32,9 @@ returns-clause-before c =
 
 pub returns-clause-until : goal.returns-clause-until
 returns-clause-until c = ap until_in (sym c.in_ok-matches.ensures.found) ∙ sym c.until_in.ensures
+
+pub returns-clause-since : goal.returns-clause-since
+returns-clause-since c = ap since_in (sym c.in_ok-matches.ensures.found) ∙ sym c.since_in.ensures
 
 pub returns-clause-explains : goal.returns-clause-explains
 returns-clause-explains c = ap explains_in (sym c.in_ok-matches.ensures.found) ∙ sym c.explains_in.ensures

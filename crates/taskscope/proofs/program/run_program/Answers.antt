@@ -3,7 +3,7 @@ use Rattle.std.specs.Prelude.{IsSome, unwrap_or}
 use Rattle.std.specs.Option.{option_map}
 use Rattle.clap.specs.Values.{kind_of}
 use Rattle.taskscope.specs.Program.{DoesOfFile, DoesUntil, moment_at}
-use Rattle.taskscope.specs.Requests.{AsksForInput, IsPlain, asked, before_text, file_of, file_text, filter_of, refusals, texts, title_text, to_of, until_of}
+use Rattle.taskscope.specs.Requests.{AsksForInput, IsPlain, asked, before_text, file_of, file_text, filter_of, refusals, since_of, texts, title_text, to_of, until_of}
 use Rattle.taskscope.specs.declared.moments.Moment.{Moment}
 use Rattle.taskscope.specs.declared.command_line.Request.{Request}
 use Rattle.taskscope.proofs.Outcomes.{nothing_done_until}
@@ -19,7 +19,7 @@ plain command request row words is = ((ap refusals is.1 ∙ (row is.0).0.0, ap a
 pub returns-in-Err-clause-does : goal.returns-in-Err-clause-does
 returns-in-Err-clause-does g c = λ request asks.
     let told = c.answer.ensures.memory (memory_alone (refusals (texts c.args.words.now)) c.in-Err.error asks.0.0 c.in-Err.ensures.fails) in
-    rw told.1 (nothing_done_until (moment_at (until_of (texts c.args.words.now))) g.S.File.Read.remaining (g.S.Sources.is_of c.args.sources.now (before_text (texts c.args.words.now))) c.args.terminal (filter_of (texts c.args.words.now)) (to_of (texts c.args.words.now)) (title_text (texts c.args.words.now), before_text (texts c.args.words.now)) request (g.I.Read.remaining c.args.input.now) (g.O.Write.contents c.args.output.now) (g.P.Place.texts c.args.place.now) c.answer.result told.0)
+    rw told.1 (nothing_done_until (moment_at (until_of (texts c.args.words.now))) g.S.File.Read.remaining (g.S.Sources.is_of c.args.sources.now (before_text (texts c.args.words.now))) c.args.terminal (filter_of (texts c.args.words.now)) (to_of (texts c.args.words.now)) ((title_text (texts c.args.words.now), before_text (texts c.args.words.now)), moment_at (since_of (texts c.args.words.now))) request (g.I.Read.remaining c.args.input.now) (g.O.Write.contents c.args.output.now) (g.P.Place.texts c.args.place.now) c.answer.result told.0)
 
 pub returns-in-Err-clause-file : goal.returns-in-Err-clause-file
 returns-in-Err-clause-file g c = λ request asks.
@@ -31,15 +31,17 @@ returns-clause-does g c = λ request asks.
     let same : c.in-Ok.call.request ≡ request = some_is _ _ (sym c.in-Ok.ensures.asked ∙ asks.0.1) in
     let filter = option_map (λ f. f.now) c.in-Ok.call.filter in
     let to = option_map (λ p. p.now) c.in-Ok.call.to in
-    let done = λ (until : Option Moment) (text path : Option (List ℕ)) (title before : List ℕ) (r : Request). DoesUntil (moment_at until) g.S.File.Read.remaining (g.S.Sources.is_of c.args.sources.now before) c.args.terminal text path (title, before) r (g.I.Read.remaining c.args.input.now) (g.I.Read.remaining c.fulfil_of_input.new.input)
+    let done = λ (until since : Option Moment) (text path : Option (List ℕ)) (title before : List ℕ) (r : Request). DoesUntil (moment_at until) g.S.File.Read.remaining (g.S.Sources.is_of c.args.sources.now before) c.args.terminal text path ((title, before), moment_at since) r (g.I.Read.remaining c.args.input.now) (g.I.Read.remaining c.fulfil_of_input.new.input)
     (g.O.Write.contents c.args.output.now) (g.O.Write.contents c.fulfil_of_input.new.output) (g.P.Place.texts c.args.place.now) (g.P.Place.texts c.fulfil_of_input.new.place) c.fulfil_of_input.result in
     let until = until_of (texts c.args.words.now) in
-    subst (λ before. done until (filter_of (texts c.args.words.now)) (to_of (texts c.args.words.now)) (title_text (texts c.args.words.now)) before request) (sym c.in-Ok.ensures.before)
-    (subst (λ title. done until (filter_of (texts c.args.words.now)) (to_of (texts c.args.words.now)) title c.in-Ok.call.before.now request) (sym c.in-Ok.ensures.title)
-    (subst (λ path. done until (filter_of (texts c.args.words.now)) path c.in-Ok.call.title.now c.in-Ok.call.before.now request) (sym c.in-Ok.ensures.to)
-    (subst (λ text. done until text to c.in-Ok.call.title.now c.in-Ok.call.before.now request) (sym c.in-Ok.ensures.filter)
-    (subst (λ moment. done moment filter to c.in-Ok.call.title.now c.in-Ok.call.before.now request) (sym c.in-Ok.ensures.until)
-    (subst (done c.in-Ok.call.until filter to c.in-Ok.call.title.now c.in-Ok.call.before.now) same c.fulfil_of_input.ensures.does)))))
+    let since = since_of (texts c.args.words.now) in
+    subst (λ before. done until since (filter_of (texts c.args.words.now)) (to_of (texts c.args.words.now)) (title_text (texts c.args.words.now)) before request) (sym c.in-Ok.ensures.before)
+    (subst (λ title. done until since (filter_of (texts c.args.words.now)) (to_of (texts c.args.words.now)) title c.in-Ok.call.before.now request) (sym c.in-Ok.ensures.title)
+    (subst (λ path. done until since (filter_of (texts c.args.words.now)) path c.in-Ok.call.title.now c.in-Ok.call.before.now request) (sym c.in-Ok.ensures.to)
+    (subst (λ text. done until since text to c.in-Ok.call.title.now c.in-Ok.call.before.now request) (sym c.in-Ok.ensures.filter)
+    (subst (λ begin. done until begin filter to c.in-Ok.call.title.now c.in-Ok.call.before.now request) (sym c.in-Ok.ensures.since)
+    (subst (λ moment. done moment c.in-Ok.call.since filter to c.in-Ok.call.title.now c.in-Ok.call.before.now request) (sym c.in-Ok.ensures.until)
+    (subst (done c.in-Ok.call.until c.in-Ok.call.since filter to c.in-Ok.call.title.now c.in-Ok.call.before.now) same c.fulfil_of_input.ensures.does))))))
 
 pub returns-clause-file : goal.returns-clause-file
 returns-clause-file g c = λ request asks.
@@ -58,15 +60,17 @@ returns-in-Some-clause-file g c = λ request asks.
     let until = until_of (texts c.args.words.now) in
     let named : c.in-Some.path.now ≡ file_text (texts c.args.words.now) =
     sym (ap (λ (p : Option (List ℕ)). unwrap_or p []) (c.in-Ok.ensures.file ∙ ap (option_map (λ f. f.now)) c.in-Some.is)) in
-    let done = λ (until : Option Moment) (text path : Option (List ℕ)) (title before : List ℕ) (r : Request). DoesOfFile until g.S.File.Read.remaining (g.S.Sources.is_of c.args.sources.now (file_text (texts c.args.words.now))) (g.S.Sources.is_of c.args.sources.now before) c.args.terminal text path (title, before) r (g.O.Write.contents c.args.output.now) (g.O.Write.contents c.fulfil_of_file.new.output)
+    let since = since_of (texts c.args.words.now) in
+    let done = λ (until since : Option Moment) (text path : Option (List ℕ)) (title before : List ℕ) (r : Request). DoesOfFile until since g.S.File.Read.remaining (g.S.Sources.is_of c.args.sources.now (file_text (texts c.args.words.now))) (g.S.Sources.is_of c.args.sources.now before) c.args.terminal text path (title, before) r (g.O.Write.contents c.args.output.now) (g.O.Write.contents c.fulfil_of_file.new.output)
     (g.P.Place.texts c.args.place.now) (g.P.Place.texts c.fulfil_of_file.new.place) c.fulfil_of_file.result in (
       refl,
-      subst (λ before. done until (filter_of (texts c.args.words.now)) (to_of (texts c.args.words.now)) (title_text (texts c.args.words.now)) before request) (sym c.in-Ok.ensures.before)
-          (subst (λ title. done until (filter_of (texts c.args.words.now)) (to_of (texts c.args.words.now)) title c.in-Ok.call.before.now request) (sym c.in-Ok.ensures.title)
-          (subst (λ path. done until (filter_of (texts c.args.words.now)) path c.in-Ok.call.title.now c.in-Ok.call.before.now request) (sym c.in-Ok.ensures.to)
-          (subst (λ text. done until text to c.in-Ok.call.title.now c.in-Ok.call.before.now request) (sym c.in-Ok.ensures.filter)
-          (subst (λ moment. done moment filter to c.in-Ok.call.title.now c.in-Ok.call.before.now request) (sym c.in-Ok.ensures.until)
-          (subst (done c.in-Ok.call.until filter to c.in-Ok.call.title.now c.in-Ok.call.before.now) same (rw named at c.fulfil_of_file.ensures.does)))))),
+      subst (λ before. done until since (filter_of (texts c.args.words.now)) (to_of (texts c.args.words.now)) (title_text (texts c.args.words.now)) before request) (sym c.in-Ok.ensures.before)
+          (subst (λ title. done until since (filter_of (texts c.args.words.now)) (to_of (texts c.args.words.now)) title c.in-Ok.call.before.now request) (sym c.in-Ok.ensures.title)
+          (subst (λ path. done until since (filter_of (texts c.args.words.now)) path c.in-Ok.call.title.now c.in-Ok.call.before.now request) (sym c.in-Ok.ensures.to)
+          (subst (λ text. done until since text to c.in-Ok.call.title.now c.in-Ok.call.before.now request) (sym c.in-Ok.ensures.filter)
+          (subst (λ begin. done until begin filter to c.in-Ok.call.title.now c.in-Ok.call.before.now request) (sym c.in-Ok.ensures.since)
+          (subst (λ moment. done moment c.in-Ok.call.since filter to c.in-Ok.call.title.now c.in-Ok.call.before.now request) (sym c.in-Ok.ensures.until)
+          (subst (done c.in-Ok.call.until c.in-Ok.call.since filter to c.in-Ok.call.title.now c.in-Ok.call.before.now) same (rw named at c.fulfil_of_file.ensures.does))))))),
     )
 
 pub returns-in-Err-clause-mistake : goal.returns-in-Err-clause-mistake

@@ -1,4 +1,4 @@
-use Rattle.std.proofs.Common.{◌≡◌, ℕ, Bool, List, [], ◌∷◌, length, subst, ◌∙◌, ap}
+use Rattle.std.proofs.Common.{◌≡◌, ℕ, Option, List, [], ◌∷◌, length, subst, ◌∙◌, ap}
 use Rattle.tk_screen.specs.Texts.{Puts}
 use Rattle.tk_screen.proofs.PutLemmas.{both}
 use Rattle.tk_frame.specs.Frames.{main_part}
@@ -16,9 +16,9 @@ returns c =
     let query = c.args.query.now in
     let odd = c.args.odd.now in
     let page_is : c.page_of-page.result ≡ page_of c.args.rows 0 (rows_count query tables odd) = c.page_of-page.ensures ∙ ap (page_of c.args.rows 0) c.rows_count.ensures in
-    let head_of : Bool → States → ℕ → Type 0 = λ (b : Bool) (s : States) (n : ℕ). Puts c.args.lines.now.items c.push_head.new.lines.items (plain (head_text tables b s n) ∷ []) in
+    let head_of : Option ℕ → States → ℕ → Type 0 = λ (b : Option ℕ) (s : States) (n : ℕ). Puts c.args.lines.now.items c.push_head.new.lines.items (plain (head_text tables b s n) ∷ []) in
     let head : head_of odd.again (states_of tables.tasks) (length odd.findings) =
-    subst (λ (b : Bool). head_of b (states_of tables.tasks) (length odd.findings)) c.again-again.ensures
+    subst (λ (b : Option ℕ). head_of b (states_of tables.tasks) (length odd.findings)) c.again-again.ensures
     (subst (λ (s : States). head_of c.again-again.result s (length odd.findings)) c.states_in.ensures
     (subst (λ (n : ℕ). head_of c.again-again.result c.states_in.result n) c.count.ensures c.in_ok-push_head.ensures)) in
     let table : Puts c.push_findings.new.lines.items c.push_main.new.lines.items (main_part query tables odd (page_of c.args.rows 0 (rows_count query tables odd))) =

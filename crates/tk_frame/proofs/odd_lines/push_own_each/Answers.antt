@@ -1,4 +1,5 @@
 use Rattle.std.proofs.Common.{List, ◌+◌, subst, sym, arith}
+use Rattle.tk_odd.specs.Findings.{told}
 use Rattle.tk_screen.specs.Screens.{LineView}
 use Rattle.tk_screen.specs.Texts.{Puts}
 use Rattle.tk_screen.proofs.PutLemmas.{both}
@@ -10,5 +11,5 @@ pub loop-i-preserved : goal.loop-i-preserved
 loop-i-preserved c =
     let i = c.loop-i.i in
     subst (λ (p : List LineView). Puts c.args.lines.now.items c.push_own.new.lines.items p)
-    (sym (numbered_more (own_lines c.args.tables.now.tasks c.args.place.now) 1 c.args.list.now i c.index-list-i.result (i + 1) c.loop-i-test.true c.index-list-i.is (omega arith)))
+    (sym (numbered_more told (own_lines c.args.tables.now.tasks c.args.place.now) 1 c.args.list.now i c.index-list-i.result (i + 1) c.loop-i-test.true c.index-list-i.is (omega arith)))
     (both c.loop-i.invariant c.in_ok-push_own.ensures)

@@ -151,8 +151,14 @@ impl Gate for ClosedTo {
 // The script stops at the `join`, and nothing after it is done. A gate that is closed to a worker without lines stops nothing.
 #[test]
 fn a_closed_gate_stops_the_script_at_the_join(rt: HostRuntime) {
-    assert!(rt; runs_under(&rt, &ClosedTo(1), BOTH, "line 10: Stopped", &[]));
-    assert!(rt; runs_under(&rt, &ClosedTo(2), BOTH, "line 10: Stopped", &[]));
+    assert!(rt;
+        runs_under(&rt, &ClosedTo(1), BOTH, "line 10: Stopped", &[]),
+        "a gate closed to worker 1"
+    );
+    assert!(rt;
+        runs_under(&rt, &ClosedTo(2), BOTH, "line 10: Stopped", &[]),
+        "a gate closed to worker 2"
+    );
     assert!(rt;
         runs_under(
             &rt,
@@ -160,7 +166,8 @@ fn a_closed_gate_stops_the_script_at_the_join(rt: HostRuntime) {
             b"task 0 spawn a\nclone 1\npar\n1 release 1\njoin\n",
             "",
             &[]
-        )
+        ),
+        "a gate closed to a worker without lines"
     );
 }
 

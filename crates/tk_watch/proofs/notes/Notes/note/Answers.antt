@@ -1,5 +1,5 @@
-use Rattle.std.proofs.Common.{ℕ, Bool, ◌||◌, Option, Some, ap, ap₂, ◌∙◌}
-use Rattle.tk_watch.specs.Recent.{has_fallen, still}
+use Rattle.std.proofs.Common.{ℕ, Option, Some, ap, ap₂, ◌∙◌}
+use Rattle.tk_watch.specs.Recent.{again_at, still}
 use Rattle.tk_watch.proofs.OddLemmas.{due_is, notes_none, notes_one}
 use Rattle.tk_watch.proofs.notes.Notes.note.Goals as goal
 
@@ -17,6 +17,6 @@ returns c = λ lints noted limits follows sites k.
     notes_one lints noted tables _ c.in_ok-earlier.earlier notes
     (due_is noted old tables c.now-now.result c.is_due.result k c.now-now.ensures c.is_due.ensures ∙ c.if-not-is_due.false)
     (c.in_ok-earlier.ensures lints _ limits follows sites) (ap Some c.now-now.ensures)
-    (c.forget.ensures.again ∙ ap₂ (λ (a b : Bool). a || b) (ap₂ (λ (l : Option ℕ) (m : ℕ). has_fallen l m) k.last c.now-now.ensures) k.again)
+    (c.forget.ensures.again ∙ ap₂ (λ (l : Option ℕ) (m : ℕ). again_at l m old.again) k.last c.now-now.ensures ∙ ap (again_at noted.last tables.now) k.again)
     (ap₂ (λ (l : Option ℕ) (m : ℕ). still l m noted.notes) k.last c.now-now.ensures)
     (c.in_ok-push_last.ensures notes (c.forget.ensures.list noted k.notes))

@@ -1,9 +1,0 @@
-use Rattle.std.proofs.Common.{take}
-use Rattle.std.specs.Prelude.{flat_map}
-use Rattle.tk_screen.specs.Texts.{Puts}
-use Rattle.tk_frame.specs.Details.{own_op}
-use Rattle.tk_frame.proofs.details.push_ops.Given as goal
-
--- the lines of those so far were put
-abbrev pub invariant-loop-place : goal.invariant-loop-place
-invariant-loop-place l = Puts l.initial.lines.items l.lines.items (flat_map (own_op l.tables.now l.id) (take l.place l.tables.ops))

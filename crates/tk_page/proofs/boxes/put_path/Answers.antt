@@ -1,0 +1,7 @@
+use Rattle.tk_paper.proofs.PutLemmas.{then}
+use Rattle.tk_page.proofs.boxes.put_path.Goals as goal
+
+pub returns : goal.returns
+returns c =
+    then c.in_ok-put.ensures
+    (then c.in_ok-put_boxes.ensures c.in_ok-put-2.ensures)

@@ -1,4 +1,0 @@
-use Rattle.tk_page.proofs.cards.put_timed.Goals as goal
-
-pub returns : goal.returns
-returns c = rw (c.before-2.ensures, c.after.ensures) at c.put.ensures

@@ -1,6 +1,0 @@
-use Rattle.tk_paper.proofs.PutLemmas.{then}
-use Rattle.tk_page.proofs.changed.put_rates.Goals as goal
-
-pub returns : goal.returns
-returns c =
-    rw (c.saturating_mul-old.ensures, c.saturating_mul-new.ensures) at (then c.in_ok-put.ensures (then c.in_ok-put_ratio.ensures c.in_ok-put-2.ensures))

@@ -1,4 +1,0 @@
-use Rattle.tk_page.proofs.changed.put_time_rate.Goals as goal
-
-pub returns : goal.returns
-returns c = rw (c.rate-old.ensures, c.rate-new.ensures) at c.put_times.ensures

@@ -1,0 +1,5 @@
+use Rattle.tk_paper.proofs.PutLemmas.{then}
+use Rattle.tk_page.proofs.facts.put_one.Goals as goal
+
+pub returns : goal.returns
+returns c = then c.in_ok-put_timed.ensures c.in_ok-put.ensures

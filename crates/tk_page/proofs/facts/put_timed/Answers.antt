@@ -1,0 +1,4 @@
+use Rattle.tk_page.proofs.facts.put_timed.Goals as goal
+
+pub returns : goal.returns
+returns c = rw (c.before-2.ensures, c.after.ensures) at c.put.ensures

@@ -1,0 +1,5 @@
+use Rattle.tk_paper.proofs.PutLemmas.{then}
+use Rattle.tk_page.proofs.ratios.put_times.Goals as goal
+
+pub returns : goal.returns
+returns c = then c.in_ok-put.ensures (then c.in_ok-put_ratio.ensures c.in_ok-put-2.ensures)

@@ -1,0 +1,8 @@
+use Rattle.tk_paper.proofs.PutLemmas.{then}
+use Rattle.tk_page.proofs.tasks_head.put_first_columns.Goals as goal
+
+pub returns : goal.returns
+returns c =
+    then c.in_ok-put.ensures
+    (then c.in_ok-put_column.ensures
+    (then c.in_ok-put_column-2.ensures c.in_ok-put-2.ensures))
